@@ -1,5 +1,5 @@
 //! Values by key.
-ghost use Rattle.std.specs.Prelude.{◌≡◌, ◌↔◌, true, false, Ok, IsErr, OnErr, IsTrue};
+ghost use Rattle.std.specs.Prelude.{◌≡◌, ◌↔◌, true, false, Ok, OnErr};
 ghost use Rattle.example_host.specs.Store.{no_values, value_at, may_put, is_new, with_value};
 
 use std::alloc::{AllocError, Global};

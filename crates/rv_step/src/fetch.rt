@@ -1,5 +1,4 @@
 //! The instruction at pc.
-ghost use Rattle.rv_step.specs.State.{State};
 ghost use Rattle.rv_step.specs.Step.{IsAtPc};
 
 use crate::cpu::Cpu;

@@ -1,6 +1,6 @@
 //! Words of the formats I, S, B, U and J; `None` where the immediate is one that its bits can't
 //! hold: too large or too small, or an odd offset.
-ghost use Rattle.std.specs.Prelude.{◌≡◌, ℕ, ◌^◌, ◌<◌};
+ghost use Rattle.std.specs.Prelude.{◌≡◌, ◌^◌, ◌<◌};
 ghost use Rattle.std.specs.Option.{SomeIff};
 ghost use Rattle.rv_word.specs.Spelling.{modulo};
 ghost use Rattle.rv_word.specs.Spelling.{i_format, s_format, b_format, u_format, j_format};

@@ -1,5 +1,5 @@
 //! funct3 and funct7, the fields by which the instructions of one opcode differ.
-ghost use Rattle.std.specs.Prelude.{◌≡◌, ℕ, ◌<◌, IfSome, IfNone, ◌≢◌, true, false};
+ghost use Rattle.std.specs.Prelude.{◌≡◌, ◌<◌, IfSome, IfNone, ◌≢◌, true, false};
 ghost use Rattle.rv_word.specs.declared.instr.RegOp.{RegOp};
 ghost use Rattle.rv_word.specs.declared.instr.ImmOp.{ImmOp};
 ghost use Rattle.rv_word.specs.declared.instr.LoadKind.{LoadKind};

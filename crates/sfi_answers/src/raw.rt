@@ -1,6 +1,6 @@
 //! The command `check --raw`.
 
-ghost use Rattle.std.specs.Prelude.{◌≡◌, ◌<◌, ◌≤◌, ℕ, List, Bool, true, false, IfOk, IfSome, string_bytes};
+ghost use Rattle.std.specs.Prelude.{◌≡◌, ◌<◌, ◌≤◌, ℕ, List, Bool, false, IfOk, IfSome};
 ghost use Rattle.sfi_check.specs.Verdict.{IsVerdictOn};
 ghost use Rattle.sfi_answers.specs.Answers.{check};
 ghost use Rattle.sfi_answers.specs.FaultTexts.{IsFaultLine};

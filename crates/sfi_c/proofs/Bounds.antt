@@ -7,7 +7,6 @@ use Rattle.std.specs.List.{All, flat_map}
 use Rattle.sfi_formats.specs.declared.format.Format.{Format}
 use Rattle.sfi_image.specs.declared.fault.LayoutFault.TheVariants.{Short}
 use Rattle.sfi_image.specs.declared.fields.Fields.{Fields}
-use Rattle.sfi_image.specs.declared.span.Span.{Span}
 use Rattle.sfi_image.specs.Spelling.{part, gate, number}
 use Rattle.sfi_image.specs.Parts.{IsRightPart}
 use Rattle.sfi_image.specs.FieldTests.{FieldTest, IsFirstFault, fault_of, field_tests}

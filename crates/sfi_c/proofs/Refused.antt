@@ -12,7 +12,7 @@ use Rattle.sfi_image.specs.declared.fault.LayoutFault.TheVariants.{Short}
 use Rattle.sfi_image.specs.declared.fields.Fields.{Fields}
 use Rattle.sfi_image.specs.declared.part.Gate.{Gate}
 use Rattle.sfi_image.specs.declared.want.Want.TheVariants as wants
-use Rattle.sfi_image.specs.Spelling.{fields_of, format_of, number, fields, gate, part, spelling, spans}
+use Rattle.sfi_image.specs.Spelling.{fields_of, format_of, number, fields, gate, part, spelling}
 use Rattle.sfi_image.specs.Parts.{IsRightPart, AreOf}
 use Rattle.sfi_image.specs.Faults.{IsFault}
 use Rattle.sfi_image.specs.Prefixes.{ImagePrefix, prefix_bytes, want_of, IsLess, IsRightPrefix, HasFaultWhateverFollows, part_of}

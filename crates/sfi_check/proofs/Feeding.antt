@@ -1,5 +1,5 @@
 -- What a feed holds, and the answer on a stream.
-use Rattle.sfi_check.proofs.Prelude.{◌≡◌, ℕ, ◌<◌, true, false, List, [], ◌∷◌, ◌++◌, length, Option, None, refl, sym, ap, ◌∙◌, subst, arith, append_assoc, inr, slice_get, Part, IsFault, ImagePrefix, prefix_bytes, HasFaultWhateverFollows, Empty, Whole, LayoutReader, StandsFor, left, left_most, Finding, AreImageFindings, StreamAnswer, Tally, Tallies, IsSoFar, IsCut, verdict_by, verdict_of, HasFindings, IsVerdictOn, AreHandedOver, IsImage, LayoutFault, ◌≤◌, ◌+◌, ◌⊎◌, Some, take, inl, is_some, append-nil, length-take, length-append, take-append_seam, want_of, IsLess, HoldsOfSome, IsFedFinding, IsFedBy, IsHeld, left_to_feed}
+use Rattle.sfi_check.proofs.Prelude.{◌≡◌, ℕ, ◌<◌, true, false, List, [], ◌∷◌, ◌++◌, length, Option, None, refl, sym, ap, ◌∙◌, subst, arith, append_assoc, inr, slice_get, Part, IsFault, ImagePrefix, prefix_bytes, HasFaultWhateverFollows, Empty, Whole, LayoutReader, StandsFor, left, Finding, AreImageFindings, StreamAnswer, Tally, Tallies, IsSoFar, IsCut, verdict_by, verdict_of, HasFindings, IsVerdictOn, AreHandedOver, IsImage, LayoutFault, ◌≤◌, ◌+◌, ◌⊎◌, Some, take, inl, is_some, append-nil, length-take, length-append, take-append_seam, want_of, IsLess, HoldsOfSome, IsFedFinding, IsFedBy, IsHeld, left_to_feed}
 use Rattle.sfi_image.specs.declared.fault.LayoutFault.TheVariants as faults
 use Rattle.sfi_image.specs.declared.want.Stage.TheVariants as stage
 use Rattle.sfi_check.specs.declared.stream_answer.StreamAnswer.TheVariants as answers

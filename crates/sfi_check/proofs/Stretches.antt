@@ -5,7 +5,6 @@ use Rattle.std.proofs.lemmas.List.Elements.{All-head, All-tail}
 use Rattle.std.proofs.lemmas.List.Sums.{sum_by-cons}
 use Rattle.sfi_image.specs.Prefixes.{IsOpened}
 use Rattle.sfi_image.specs.Prefixes.ImagePrefix.{Whole}
-use Rattle.sfi_image.specs.Spelling.{spans}
 use Rattle.sfi_image.proofs.Formats.{code_at_most}
 use Rattle.sfi_image.proofs.Standing.{region}
 use Rattle.sfi_check.specs.Feeds.{bundles_most, front_bundles}

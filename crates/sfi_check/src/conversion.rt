@@ -7,7 +7,6 @@ ghost use Rattle.sfi_image.specs.Spelling.{views, format_of};
 ghost use Rattle.sfi_image.specs.Parts.{IsRightLayout};
 ghost use Rattle.sfi_image.specs.Faults.{IsFault};
 ghost use Rattle.sfi_rules.specs.declared.finding.Finding.{Finding};
-ghost use Rattle.sfi_rules.specs.Findings.{AreImageFindings};
 ghost use Rattle.sfi_check.specs.Verdict.{HasFindings};
 ghost use Rattle.sfi_check.specs.Converting.{number_of, IsSecond, IsOfWords, HasStackFindings, IsConversion, AreOfStack, IfStack, IsConvertFault, AnswersNotOld, AnswersLayout, AnswersFindings, AnswersStack, AnswersWords, AnswersConversion};
 ghost use Rattle.sfi_check.specs.private.{ChecksStack, Converts};

@@ -1,7 +1,7 @@
 //! Rows of commands and of their options, and the command line that they make.
 
 ghost use Rattle.std.specs.Prelude.{◌≡◌, IfOk, false, map};
-ghost use Rattle.clap.specs.Simple.{App, Shape, app_of, new_app};
+ghost use Rattle.clap.specs.Simple.{app_of, new_app};
 ghost use Rattle.clap.specs.Walk.{rule_of};
 ghost use Rattle.clap.specs.declared.builder.command.Command.TheViews.{out-Command};
 ghost use Rattle.sfi_command.specs.Command.{program_named, required_argument_rule, with_all};

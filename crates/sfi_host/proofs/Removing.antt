@@ -1,5 +1,5 @@
 -- A world without one of its sandboxes.
-use Rattle.sfi_host.proofs.Prelude.{◌≡◌, ◌≢◌, ◌⊎◌, inl, inr, true, false, cond, ℕ, zero, suc, ◌+◌, ◌<◌, List, [], ◌∷◌, length, map, Option, Some, None, is_some, slice_get, slice_get-map, refl, sym, ap, ◌∙◌, subst, arith, option_map, length-map, Bytes, IsMemory, byte_at, Part, Holds, KeepsBytes, Program, AreEnterable, Sandbox, seat_of, seats_of, world_of, bounds_of, own, Slot, Seat, Sandboxes, slot_of, IsSafeSeat, IsSafeWorld}
+use Rattle.sfi_host.proofs.Prelude.{◌≡◌, ◌≢◌, ◌⊎◌, inl, inr, true, false, cond, ℕ, zero, suc, ◌+◌, ◌<◌, List, [], ◌∷◌, length, Option, Some, None, is_some, slice_get, slice_get-map, refl, sym, ap, ◌∙◌, subst, arith, option_map, length-map, Bytes, IsMemory, byte_at, Part, Holds, KeepsBytes, Program, AreEnterable, Sandbox, seat_of, seats_of, world_of, bounds_of, own, Slot, Seat, Sandboxes, slot_of, IsSafeSeat, IsSafeWorld}
 use Rattle.std.specs.List.{remove}
 use Rattle.std.proofs.lemmas.List.Edits.{length-remove}
 use Rattle.sfi_host.specs.Adding.{is_own_of, bytes_of, number_without, without_of, without, RestIsSame, AreChangesToRest}

@@ -16,7 +16,7 @@ use Rattle.sfi_host.specs.Worlds.{IsAt, IsAtGate, TouchesGuard, StoppedItself}
 use Rattle.rv_step.specs.declared.outcome.Cause.TheVariants as cause
 use Rattle.rv_step.proofs.Facts.{step_is_effect}
 use Rattle.sfi_decoded.proofs.Decoding.{stands_still}
-use Rattle.sfi_host.proofs.Prelude.{◌≡◌, ◌↔◌, ◌==◌, IsTrue, false, eqb-true, same_Some, ℕ, List, [], ◌∷◌, length, Option, Some, None, inl, inr, refl, sym, ap, ◌∙◌, subst, arith, bytes_at, addresses, number_of, loaded, State, Ecall, Stands, zero, suc, ◌<◌, cond, is_some, IsSome, slice_get, ℤ, Contains, option_map, slice_get_within, get_or_from_slice_get, Load, Store, Ebreak, Bytes, byte_at, address_after, in_front, Hart, register, Stepped, IsStep, next, unchanged, after_load, effect, Span, Holds, InZones, InData, InGuard, IsGate, Steps, IsSafeState, IsSafeStep, Status, Ready, Exited, Trapped, Bounds, Seat, Sandboxes, slots_of, status_at, state_in, IsSafeSeat, IsSafeWorld, HaveStoppedThemselves}
+use Rattle.sfi_host.proofs.Prelude.{◌≡◌, ◌↔◌, ◌==◌, IsTrue, false, eqb-true, same_Some, ℕ, List, [], ◌∷◌, length, Option, Some, None, inl, inr, refl, sym, ap, ◌∙◌, subst, arith, bytes_at, addresses, number_of, loaded, State, Ecall, Stands, zero, suc, ◌<◌, cond, is_some, IsSome, slice_get, ℤ, Contains, option_map, slice_get_within, get_or_from_slice_get, Load, Store, Ebreak, Bytes, byte_at, address_after, in_front, Hart, register, Stepped, IsStep, next, unchanged, after_load, effect, Holds, InZones, InData, InGuard, IsGate, Steps, IsSafeState, IsSafeStep, Status, Ready, Exited, Trapped, Bounds, Seat, Sandboxes, slots_of, status_at, state_in, IsSafeSeat, IsSafeWorld, HaveStoppedThemselves}
 
 -- ==== An ecall stands at pc where the four bytes there make its word.
 

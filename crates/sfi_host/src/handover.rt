@@ -1,6 +1,6 @@
 //! What the services of a console have in common: bytes that a call hands over, and refused calls. The
 //! numbers here are `failed` and `most_handed` of specs/Consoles, and stand in docs/GATES.md.
-ghost use Rattle.std.specs.Prelude.{◌≡◌, ◌+◌, ◌^◌, ◌≤◌, ◌++◌, ◌↔◌, IsTrue, IsSome, IsOk, Some, OnOk, OnErr, length};
+ghost use Rattle.std.specs.Prelude.{◌≡◌, ◌+◌, ◌^◌, ◌≤◌, ◌++◌, ◌↔◌, IsTrue, IsSome, IsOk, Some, OnOk, OnErr};
 ghost use Rattle.std.specs.Bool.{OnTrue};
 ghost use Rattle.std.specs.Option.{option_map};
 ghost use Rattle.sfi_host.specs.Hosts.{data_of, asked, outside, HasData, SameMemory, data_from, with_a0};

@@ -1,6 +1,4 @@
 //! The reply of a program that answers calls between turns.
-ghost use Rattle.sfi_host.specs.Hosts.{IsAnswered, IsRefused, LeavesOthers};
-ghost use Rattle.sfi_host.specs.Hosts.{HasData, SameMemory};
 
 use crate::gates::{GateAnswer, Gates};
 use crate::guest::Guest;

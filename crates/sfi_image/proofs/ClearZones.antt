@@ -1,5 +1,5 @@
 -- Where zones at zero end, by the spans that a reader keeps, and which spans lie clear of them.
-use Rattle.sfi_image.proofs.Prelude.{◌≡◌, ℕ, zero, suc, ◌+◌, ◌-◌, ◌*◌, ◌/◌, ◌<◌, ◌≤◌, ◌↔◌, Bool, true, false, List, [], ◌∷◌, ◌++◌, length, get_or, take, refl, sym, ap, ◌∙◌, subst, arith, All, All-nil, All-cons, All-push, All-head, All-tail, All-append, cases_lt, inl, inr, take_more, take_all, has_single_mask, Format, Fields, Span, Part, fields_of, spans, spans_of, code_span, guarded_span, AreOf, IsClear, AreClear, AreRight, zone_end, zone_ends_of, zone_ends, length_push}
+use Rattle.sfi_image.proofs.Prelude.{◌≡◌, ℕ, zero, suc, ◌+◌, ◌-◌, ◌*◌, ◌/◌, ◌<◌, ◌≤◌, ◌↔◌, true, false, List, [], ◌∷◌, ◌++◌, length, get_or, refl, sym, ap, ◌∙◌, subst, arith, All, All-nil, All-cons, All-push, All-head, All-tail, All-append, cases_lt, inl, inr, has_single_mask, Format, Fields, Span, Part, fields_of, spans, spans_of, code_span, guarded_span, AreOf, IsClear, AreClear, AreRight, zone_end, zone_ends_of, zone_ends, length_push}
 use Rattle.std.specs.Prelude.{max, cond}
 use Rattle.std.proofs.Math.Nat.{le-max_left, le-max_right, max-le, max-eq_left, max-eq_right}
 use Rattle.std.specs.Ordering.{ord_max, nat_cmp, is_lt}

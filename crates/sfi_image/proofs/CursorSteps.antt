@@ -1,5 +1,5 @@
 -- What a cursor has read after each step, and what it hands out.
-use Rattle.sfi_image.proofs.Prelude.{◌≡◌, ◌≢◌, ℕ, zero, suc, ◌+◌, ◌*◌, ◌<◌, ◌≤◌, ◌-◌, List, [], ◌∷◌, ◌++◌, length, take, drop, take_all, length-drop, drop-drop, part, Some, refl, sym, ap, ◌∙◌, subst, arith, append_assoc, inl, inr, eqb_tells, All, All-head, All-tail, All-push, None, length_push, get_or_push, take_more, Result, Ok, Err, flat_map, slice_get, ne_eqb, eq-eqb, length-append, append-nil, Format, Gate, Fields, LayoutFault, Short, Trailing, Part, fields_of, number, fields, gate, AreFieldWords, AreGateWords, IsImage, IsFault, ImagePrefix, prefix_bytes, head, want_of, spans, part_of, after_parts, after_init, after_code, after_gates, HasFaultWhateverFollows, AfterCount, InGates, InCode, InInit, Whole, LayoutReader, StandsFor, MayTake}
+use Rattle.sfi_image.proofs.Prelude.{◌≡◌, ◌≢◌, ℕ, zero, suc, ◌+◌, ◌*◌, ◌<◌, ◌≤◌, ◌-◌, List, [], ◌∷◌, ◌++◌, length, take, drop, take_all, length-drop, drop-drop, part, Some, refl, sym, ap, ◌∙◌, subst, arith, append_assoc, inl, inr, eqb_tells, All, All-head, All-tail, All-push, None, length_push, get_or_push, take_more, Result, Ok, Err, flat_map, slice_get, ne_eqb, eq-eqb, length-append, append-nil, Format, Gate, Fields, LayoutFault, Short, Trailing, Part, fields_of, number, fields, gate, AreFieldWords, AreGateWords, IsImage, IsFault, ImagePrefix, prefix_bytes, head, want_of, part_of, after_parts, after_init, after_code, after_gates, HasFaultWhateverFollows, AfterCount, InGates, InCode, InInit, Whole, LayoutReader, StandsFor, MayTake}
 use Rattle.std.proofs.lemmas.Option.{slice_get_within, get_or_from_slice_get}
 use Rattle.std.proofs.Math.Seq.{take-append_seam}
 use Rattle.sfi_image.specs.declared.cursor.ImageCursor.{ImageCursor}

@@ -1,5 +1,5 @@
 -- The bytes of prefixes that follow one another, and that what they hold is right.
-use Rattle.sfi_image.proofs.Prelude.{◌≡◌, ℕ, ◌≤◌, List, [], ◌∷◌, ◌++◌, length, refl, sym, ap, ◌∙◌, subst, arith, append_assoc, inl, inr, eqb_tells, AllPairs, flat_map, flat_map-append, append-nil, All-push, Format, magic, Gate, Fields, Part, number, fields, fields_of, gate, part, AreApart, AreApartWith, spans, spans_of, IsRightPart, AreOf, ImagePrefix, prefix_bytes, head, IsHead, IsOpened, IsRightPrefix, part_of, after_parts, after_init, after_code, after_gates, Follows, Empty, AfterMagic, AfterCount, InGates, InCode, InInit, Whole}
+use Rattle.sfi_image.proofs.Prelude.{◌≡◌, ℕ, ◌≤◌, List, [], ◌∷◌, ◌++◌, length, refl, sym, ap, ◌∙◌, subst, arith, append_assoc, inl, inr, eqb_tells, flat_map, flat_map-append, append-nil, All-push, Format, magic, Gate, Fields, Part, number, fields, fields_of, gate, part, AreApartWith, AreOf, ImagePrefix, prefix_bytes, head, IsHead, IsOpened, IsRightPrefix, part_of, after_parts, after_init, after_code, after_gates, Follows, Empty, AfterMagic, AfterCount, InGates, InCode, InInit, Whole}
 use Rattle.sfi_image.proofs.Tests.{right_part, one_more_right}
 use Rattle.sfi_image.proofs.Formats.{same_format}
 

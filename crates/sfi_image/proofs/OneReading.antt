@@ -1,5 +1,5 @@
 -- Bytes have one image or one fault.
-use Rattle.sfi_image.proofs.Prelude.{◌≡◌, ℕ, ◌+◌, ◌<◌, ◌≤◌, List, [], ◌∷◌, ◌++◌, length, take, refl, sym, ap, subst, ◌∙◌, arith, append_assoc, inl, inr, ◌⊎◌, Some, None, Option, Result, Ok, Err, All, AllPairs, flat_map, flat_map-append, length-append, append-nil, Format, magic, Gate, Fields, Span, LayoutFault, Count, Short, Trailing, Part, fields_of, format_of, number, gate, part, spelling, AreGateWords, AreApart, AreApartWith, code_span, spans_of, spans, AreGates, IsRightPart, AreOf, AreRight, FieldTest, IsFirstFault, field_tests, IsImage, IsBodyFault, IsPartFault, ArePartsFault, IsCountFault, IsFault}
+use Rattle.sfi_image.proofs.Prelude.{◌≡◌, ℕ, ◌+◌, ◌<◌, ◌≤◌, List, [], ◌∷◌, ◌++◌, length, take, refl, sym, ap, subst, ◌∙◌, arith, append_assoc, inl, inr, ◌⊎◌, Some, None, Option, Result, Ok, Err, All, flat_map, flat_map-append, length-append, append-nil, Format, magic, Gate, Fields, LayoutFault, Count, Short, Trailing, Part, fields_of, format_of, number, gate, part, spelling, AreGateWords, AreApartWith, code_span, AreGates, IsRightPart, AreOf, AreRight, FieldTest, IsFirstFault, field_tests, IsImage, IsBodyFault, IsPartFault, ArePartsFault, IsCountFault, IsFault}
 use Rattle.sfi_image.specs.declared.fault.ImageFault.{ImageFault}
 use Rattle.sfi_image.specs.private.{Reads}
 use Rattle.sfi_image.specs.declared.fault.LayoutFault.TheVariants.{Gates}

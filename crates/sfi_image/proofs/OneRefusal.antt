@@ -1,5 +1,5 @@
 -- Sandboxes that are to be written have one fault at most, that of their bytes.
-use Rattle.sfi_image.proofs.Prelude.{◌≡◌, ℕ, ◌≤◌, List, [], ◌∷◌, ◌++◌, length, refl, sym, ap, subst, ◌∙◌, arith, append_assoc, inl, inr, ◌⊎◌, Some, None, Result, Ok, Err, IfErr, All, AllPairs, flat_map, flat_map-append, length-append, All-cons, All-head, All-tail, Format, Span, LayoutFault, Part, format_of, fields_of, gate, part, number, spelling, AreGateWords, AreWords, AreApart, AreApartWith, code_region, spans_of, spans, AreGates, IsRightPart, AreOf, AreRight, IsRightLayout, field_tests, IsBodyFault, IsPartFault, ArePartsFault, IsFault, IfLayout}
+use Rattle.sfi_image.proofs.Prelude.{◌≡◌, ℕ, ◌≤◌, List, [], ◌∷◌, ◌++◌, length, refl, sym, ap, subst, ◌∙◌, arith, append_assoc, inl, inr, ◌⊎◌, Some, None, Result, Ok, Err, IfErr, All, flat_map, flat_map-append, length-append, All-cons, All-head, All-tail, Format, LayoutFault, Part, format_of, fields_of, gate, part, number, spelling, AreGateWords, AreWords, AreApartWith, code_region, AreGates, IsRightPart, AreOf, AreRight, IsRightLayout, field_tests, IsBodyFault, IsPartFault, ArePartsFault, IsFault, IfLayout}
 use Rattle.sfi_image.specs.Faults.{HasWrongGate, HasFault, HasWrongPart, HaveFault}
 use Rattle.sfi_image.specs.declared.fault.ImageFault.{ImageFault}
 use Rattle.sfi_image.specs.private.{Reads}

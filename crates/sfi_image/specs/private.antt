@@ -15,8 +15,6 @@ use Rattle.sfi_image.specs.Spelling.{Part, fields_of, spans_of}
 use Rattle.sfi_image.specs.Parts.{IsRightPart}
 use Rattle.sfi_image.specs.FieldTests.{AreApartWith}
 use Rattle.sfi_image.specs.declared.fields.OwnSpans.{OwnSpans}
-use Rattle.sfi_image.specs.declared.span.Span.{Span}
-use Rattle.sfi_formats.specs.Limits.{guard}
 use Rattle.sfi_image.specs.Numbers.{magic_bytes, number_bytes, fields_bytes, gate_bytes}
 use Rattle.sfi_image.specs.declared.fault.ImageFault.{ImageFault}
 use Rattle.sfi_image.specs.Faults.{IfLayout}

@@ -1,6 +1,5 @@
 //! Where bytes come from, piece by piece.
 ghost use Rattle.std.specs.Prelude.{◌≡◌, ℕ, ◌≤◌, ◌<◌, Bool, true, false, List, [], Option, Some, None, length, take, IfOk, OnErr};
-ghost use Rattle.std.specs.Io.KnownBytes.{Consumes, IsAtEnd, Keeps};
 ghost use Rattle.sfi_image.specs.Sources.{ReadsOf};
 
 use std::io::Read;

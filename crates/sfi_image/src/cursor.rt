@@ -6,7 +6,7 @@ ghost use Rattle.sfi_image.specs.declared.part.Gate.{Gate};
 ghost use Rattle.sfi_image.specs.Spelling.{Part, gate};
 ghost use Rattle.sfi_image.specs.Parts.{IsImage};
 ghost use Rattle.sfi_image.specs.Faults.{IsFault};
-ghost use Rattle.sfi_image.specs.Prefixes.{ImagePrefix, after_gates, after_code, after_init, after_parts, part_of};
+ghost use Rattle.sfi_image.specs.Prefixes.{ImagePrefix, after_gates, after_init, after_parts, part_of};
 ghost use Rattle.sfi_image.specs.Prefixes.ImagePrefix.{AfterCount, InCode};
 ghost use Rattle.sfi_image.specs.Keeping.{HasPassed, HasRead, IsViewOf, unread};
 ghost use Rattle.sfi_image.specs.private.{MayTake};

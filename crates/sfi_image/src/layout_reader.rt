@@ -1,6 +1,5 @@
 //! Reading an image's layout piece by piece, without taking memory.
-ghost use Rattle.std.specs.Prelude.{◌≡◌, ◌≢◌, ℕ, ◌+◌, ◌-◌, ◌<◌, ◌≤◌, ◌↔◌, ◌*◌, ◌++◌, ◌∷◌, [], List, length, map, drop, cond, ◌==◌, IsTrue, IfSome, IfNone, false};
-ghost use Rattle.sfi_formats.specs.Limits.{bundle_size};
+ghost use Rattle.std.specs.Prelude.{◌≡◌, ◌≢◌, ◌+◌, ◌-◌, ◌<◌, ◌≤◌, ◌↔◌, ◌*◌, ◌++◌, ◌∷◌, [], length, drop, ◌==◌, IfSome, IfNone, false};
 ghost use Rattle.sfi_image.specs.declared.fault.LayoutFault.{LayoutFault};
 ghost use Rattle.sfi_image.specs.Prefixes.{ImagePrefix, prefix_bytes, want_of, AreBundlesWithin, IsLengthOf, IsStretchLength, HasFaultWhateverFollows};
 ghost use Rattle.sfi_image.specs.Prefixes.ImagePrefix.{Empty};

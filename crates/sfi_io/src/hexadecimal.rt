@@ -1,6 +1,6 @@
 //! Hexadecimal text with white space in it.
 
-ghost use Rattle.std.specs.Prelude.{◌≡◌, ◌⊎◌, ◌<◌, ◌≤◌, ◌+◌, ◌-◌, ◌*◌, ◌%◌, ◌≢◌, ℕ, List, not, IfOk, IfErr, IfSome, IsErr, IsNone, None, Ok, Some, filter, length, slice_index, take, true};
+ghost use Rattle.std.specs.Prelude.{◌≡◌, ◌⊎◌, ◌<◌, ◌≤◌, ◌+◌, ◌-◌, ◌*◌, ◌%◌, ◌≢◌, ℕ, List, not, IfOk, IfErr, IfSome, IsErr, IsNone, None, Ok, Some, filter, length, slice_index, true};
 ghost use Rattle.sfi_io.specs.declared.hexadecimal.TheConstants.{CLASSES};
 ghost use Rattle.hex.specs.Hex.{decode_of, hex_digit_value, pair_value};
 ghost use Rattle.sfi_io.specs.Hexadecimal.{is_kept, GivesBytes, IsHexStop, IsUnreadable, SpellsBytes};

@@ -1,7 +1,7 @@
 //! Input that is an image: its own bytes, or hexadecimal text.
 
 ghost use Rattle.std.specs.Prelude.{◌≡◌, ◌<◌, ◌≤◌, ◌↔◌, ℕ, List, IsTrue, IfOk, IfErr, IfSome, IsErr, length};
-ghost use Rattle.std.specs.Io.KnownBytes.{Consumes, IsAtEnd};
+ghost use Rattle.std.specs.Io.KnownBytes.{Consumes};
 ghost use Rattle.sfi_io.specs.Hexadecimal.{GivesBytes, IsHexStop};
 ghost use Rattle.sfi_io.specs.Hexadecimal.{BeginsAsImage, GivesImage, GivesNoImage};
 ghost use Rattle.sfi_io.specs.Hexadecimal.{limit};

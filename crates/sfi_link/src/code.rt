@@ -3,7 +3,7 @@
 ghost use Rattle.std.specs.Prelude.{◌≡◌, ◌+◌, ◌^◌, ◌<◌, ◌++◌, IsTrue, pos, length, Some, IfOk, IfErr, OnOk};
 ghost use Rattle.std.specs.List.{All};
 ghost use Rattle.std.specs.Int.{w16, w32, to_le_bytes};
-ghost use Rattle.rv_word.specs.Spelling.{InRange, IsReg, spelling};
+ghost use Rattle.rv_word.specs.Spelling.{InRange, spelling};
 ghost use Rattle.rv_word.specs.declared.instr.Instr.TheVariants.{Op, OpImm};
 ghost use Rattle.rv_word.specs.declared.instr.ImmOp.TheVariants.{Addi};
 ghost use Rattle.rv_word.specs.declared.instr.RegOp.TheVariants.{Add};

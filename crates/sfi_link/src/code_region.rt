@@ -1,5 +1,5 @@
 //! The code region of a sandbox: its gates' stubs, its code, and c.ebreaks up to its end.
-ghost use Rattle.std.specs.Prelude.{◌≡◌, ◌++◌, ◌<◌, ◌≤◌, ℕ, length, IfSome, IfNone, OnOk};
+ghost use Rattle.std.specs.Prelude.{◌≡◌, ◌++◌, ◌<◌, ◌≤◌, ℕ, IfSome, IfNone, OnOk};
 ghost use Rattle.std.specs.List.{All, AllPairs, repeat};
 ghost use Rattle.sfi_formats.specs.declared.format.Format.TheVariants.{Sfi2};
 ghost use Rattle.sfi_formats.specs.Formats.{built_code_most};

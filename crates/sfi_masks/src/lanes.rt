@@ -2,7 +2,7 @@
 //! `low` and `high` are the halfwords' low and high bytes. Classes are eight bits, one for each
 //! class of a table of `tables.rt`. What the contracts cite of specs/private says the same of one
 //! halfword.
-ghost use Rattle.std.specs.Prelude.{◌≡◌, ℕ, ◌+◌, ◌*◌, ◌%◌, ◌^◌, ◌<◌, ◌==◌, not, length, slice_index, bit_and};
+ghost use Rattle.std.specs.Prelude.{◌≡◌, ℕ, ◌+◌, ◌*◌, ◌%◌, ◌^◌, ◌<◌, ◌==◌, not, length, slice_index};
 ghost use Rattle.sfi_masks.specs.Masks.{is_in};
 ghost use Rattle.sfi_masks.specs.private.{HasLanes, byte_classes, half_classes, followed, free_in_words, kept, kept_in_words, mask_classes, rest};
 

@@ -1,7 +1,7 @@
 //! Names with their addresses, one after another. An entry is the address in four bytes,
 //! little-endian, a byte that says how many bytes the name has, and the name: `entry` of
 //! specs/Tables says the same.
-ghost use Rattle.std.specs.Prelude.{◌≡◌, ◌≢◌, ℕ, ◌<◌, ◌≤◌, ◌+◌, ◌++◌, ◌↔◌, ◌-◌, List, length, take, drop, IsTrue, Some, None, IfSome, IfNone, OnOk, slice_get};
+ghost use Rattle.std.specs.Prelude.{◌≡◌, ◌≢◌, ℕ, ◌<◌, ◌≤◌, ◌+◌, ◌++◌, ◌↔◌, ◌-◌, List, length, IsTrue, Some, None, IfSome, IfNone, OnOk, slice_get};
 ghost use Rattle.std.specs.List.{All};
 ghost use Rattle.sfi_image.specs.Spelling.{number, IsWord};
 ghost use Rattle.sfi_names.specs.Tables.{Named, entry, entries, IsName, IsNamed};

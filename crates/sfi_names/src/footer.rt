@@ -1,6 +1,6 @@
 //! The end of a table: three numbers, the version and how many bytes the exports and the imports
 //! have, and then the magic. `footer` of specs/Tables says the same.
-ghost use Rattle.std.specs.Prelude.{◌≡◌, ◌<◌, ◌+◌, ◌++◌, List, length, IfSome, IfNone};
+ghost use Rattle.std.specs.Prelude.{◌≡◌, ◌<◌, ◌+◌, ◌++◌, length, IfSome, IfNone};
 ghost use Rattle.sfi_image.specs.Spelling.{number, IsWord};
 
 use crate::entry::{NUMBER_BYTES, number_at};

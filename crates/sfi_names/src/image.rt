@@ -1,5 +1,5 @@
 //! The table of a sandbox of an image.
-ghost use Rattle.std.specs.Prelude.{◌≡◌, ℕ, List, Result, Ok, Err, IfOk, IfErr, IsOkAnd};
+ghost use Rattle.std.specs.Prelude.{◌≡◌, ℕ, Result, Ok, Err, IfOk, IfErr, IsOkAnd};
 ghost use Rattle.sfi_names.specs.declared.image.Missing.{Missing};
 ghost use Rattle.sfi_names.specs.declared.image.Missing.TheVariants.{NoImage};
 ghost use Rattle.sfi_names.specs.Images.{IsInitOf, HasTableOf, HasNoTable, IsAnswer, IsEntryAnswer};

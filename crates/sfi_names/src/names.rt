@@ -1,5 +1,5 @@
 //! A table of names at the end of bytes.
-ghost use Rattle.std.specs.Prelude.{◌≡◌, ◌↔◌, ◌++◌, List, Ok, Err, IsTrue, IfOk, IfErr, IfSome, IfNone, IsOkAnd, OnOk};
+ghost use Rattle.std.specs.Prelude.{◌≡◌, ◌↔◌, ◌++◌, Ok, Err, IfOk, IfErr, IfSome, IfNone, IsOkAnd, OnOk};
 ghost use Rattle.sfi_names.specs.declared.fault.NamesFault.{NamesFault};
 ghost use Rattle.sfi_names.specs.Tables.{Table, magic, spelling};
 ghost use Rattle.sfi_names.specs.Tables.{EndsIn, HasTable, IsNamesOf};

@@ -6,7 +6,7 @@ use Rattle.rv_step.specs.State.{Hart, register}
 use Rattle.sfi_formats.specs.Formats.{has_single_mask, unit}
 use Rattle.sfi_image.specs.Parts.{data_mask_of}
 use Rattle.sfi_image.specs.Spelling.{Part, data_region}
-use Rattle.sfi_translate.specs.Machine.{fixed, with_data_base}
+use Rattle.sfi_translate.specs.Machine.{fixed}
 use Rattle.x86_step.proofs.Bytes.{set_one}
 use Rattle.sfi_native.specs.Registers.{is_fixed}
 

@@ -1,12 +1,11 @@
 //! Where the units of a sandbox's code are entered, by indirect jumps and by a host: the table that
 //! specs/Entries.antt says. A unit is a bundle, or, in formats of words, a word.
-ghost use Rattle.std.specs.Prelude.{◌≡◌, ℕ, ◌*◌, ◌/◌, IfOk, List, length};
+ghost use Rattle.std.specs.Prelude.{◌≡◌, ℕ, ◌*◌, ◌/◌, IfOk, List};
 ghost use Rattle.sfi_image.specs.Spelling.{Part};
 ghost use Rattle.sfi_image.specs.Spelling.{view};
 ghost use Rattle.sfi_translate.specs.Lines.{Line as CodeLine};
 ghost use Rattle.sfi_translate.specs.Machine.{label};
-ghost use Rattle.sfi_native.specs.Entries.{AreEntries, entry_of, owed_at_entry, unit_address};
-ghost use Rattle.sfi_native.specs.declared.plan.Plan.{Plan as TheMap};
+ghost use Rattle.sfi_native.specs.Entries.{AreEntries, entry_of, owed_at_entry};
 ghost use Rattle.sfi_native.specs.Lines.{AreMeasured};
 ghost use Rattle.sfi_native.specs.Places.{size_of_all};
 

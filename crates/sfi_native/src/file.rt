@@ -1,6 +1,6 @@
 //! The file of an image's native code, as specs/File.antt says it and include/sfi_native_code.h reads
 //! it. Each `push_` function appends to `out`.
-ghost use Rattle.std.specs.Prelude.{◌≡◌, ℕ, ◌++◌, ◌<◌, List, OnOk, IfOk, IfNone, IfSome, length, map, true, false, ◌+◌, ◌*◌};
+ghost use Rattle.std.specs.Prelude.{◌≡◌, ◌++◌, ◌<◌, List, OnOk, IfOk, IfNone, IfSome, length, map, true, false, ◌+◌, ◌*◌};
 ghost use Rattle.std.specs.List.{flat_map};
 ghost use Rattle.sfi_image.specs.Spelling.{fields, fields_of, number, view};
 ghost use Rattle.sfi_image.specs.Parts.{IsRightPart};

@@ -11,7 +11,7 @@ use Rattle.sfi_image.specs.Parts.{IsRightPart, IsBundleStart, IsCodeRegion}
 use Rattle.sfi_safe_runs.specs.Safety.{RunsSafely}
 use Rattle.sfi_safe_runs.specs.Calling.{CallsTyped}
 use Rattle.sfi_safety.proofs.Safe.{all_safe, all_call}
-use Rattle.sfi_places.specs.Beside.{AreBeside, BesideIsAsOne, BesideByPairs}
+use Rattle.sfi_places.specs.Beside.{BesideIsAsOne, BesideByPairs}
 use Rattle.std.proofs.lemmas.List.{length-map}
 use Rattle.sfi_formats.specs.Limits.{gates_most, service_most}
 use Rattle.sfi_image.specs.declared.part.Gate.{Gate}

@@ -2,7 +2,6 @@
 use Rattle.std.proofs.Common.{false, ◌%◌, length-drop}
 use Rattle.std.specs.Fmt.{padded_integral, char_count, format_spec, digits}
 use Rattle.sfi_report.specs.Listing.{hex_digits, instruction_line, rest_line, name_line, interface_line, table_lines, IsNamesText}
-use Rattle.std.proofs.lemmas.List.{drop_all}
 use Rattle.rv_word.specs.declared.instr.Instr.{Instr}
 use Rattle.rv_comp.specs.Fronts.{Spells}
 use Rattle.sfi_rules.specs.Readings.{Piece, IsReading, IsLongestReading}

@@ -1,6 +1,6 @@
 //! The names of a sandbox, in the listing and the map: what the table at the end of its first data
 //! bytes says that it exports and imports, with addresses.
-ghost use Rattle.std.specs.Prelude.{◌≡◌, ◌≤◌, ◌++◌, ℕ, List, OnOk, IfOk, string_bytes};
+ghost use Rattle.std.specs.Prelude.{◌≡◌, ◌≤◌, ◌++◌, List, OnOk, IfOk, string_bytes};
 ghost use Rattle.std.specs.List.{All, flat_map};
 ghost use Rattle.sfi_names.specs.Tables.{Named, entries, IsNamed, IsName};
 ghost use Rattle.sfi_names.specs.Tables.{named};

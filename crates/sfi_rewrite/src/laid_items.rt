@@ -1,6 +1,6 @@
 //! The items of a sandbox of code in bundles, laid one after another. `words/laid_items` does the
 //! same for code in words.
-ghost use Rattle.std.specs.Prelude.{◌≡◌, ◌<◌, ◌≤◌, ◌+◌, ◌*◌, ℕ, false, IfOk, IfErr, length, slice_index};
+ghost use Rattle.std.specs.Prelude.{◌≡◌, ◌<◌, ◌≤◌, ◌+◌, ◌*◌, ℕ, false, IfOk, IfErr, length};
 ghost use Rattle.sfi_formats.specs.Formats.{built_code_most};
 ghost use Rattle.sfi_source.specs.Source.{IsBody};
 ghost use Rattle.sfi_rewrite.specs.Expansion.{size_of};

@@ -1,7 +1,7 @@
 //! From a source to what is placed.
-ghost use Rattle.std.specs.Prelude.{◌≡◌, ◌<◌, ◌≤◌, ◌^◌, ℕ, List, length, IfOk, IfErr, IsTrue, Ok, Err};
+ghost use Rattle.std.specs.Prelude.{◌≡◌, ◌<◌, ◌≤◌, ◌^◌, List, length, IfOk, IfErr, IsTrue, Ok};
 ghost use Rattle.std.specs.List.{All, AllZip};
-ghost use Rattle.sfi_source.specs.Source.{IsSandbox, IsSource};
+ghost use Rattle.sfi_source.specs.Source.{IsSandbox};
 ghost use Rattle.sfi_rewrite.specs.Expansion.{size_of};
 ghost use Rattle.sfi_rewrite.specs.Placement.{Placement};
 ghost use Rattle.sfi_rewrite.specs.Placed.{IsPlacedPart};

@@ -1,5 +1,5 @@
 -- The laws of this crate.
-use Rattle.std.proofs.Common.{◌≡◌, ℕ, arith, inl, inr, None, ap}
+use Rattle.std.proofs.Common.{◌≡◌, arith, inl, inr, None, ap}
 use Rattle.std.proofs.lemmas.Option.{same_Some}
 use Rattle.sfi_host.proofs.Continuing.{cut_is_shorter}
 use Rattle.sfi_host.proofs.Facts.{plans_are_sessions}

@@ -1,7 +1,6 @@
 //! A world that C holds.
 ghost use Rattle.std.specs.Prelude.{◌≡◌, Option, None, Some};
 ghost use Rattle.std.specs.Option.{option_map};
-ghost use Rattle.sfi_host.specs.Worlds.{Sandboxes};
 ghost use Rattle.sfi_run.specs.Held.{flag_of};
 
 use crate::held_world::HeldWorld;

@@ -15,7 +15,7 @@ use Rattle.sfi_image.proofs.Facts.{code_ends}
 use Rattle.std.specs.Prelude.{replicate}
 use Rattle.rv_step.proofs.States.{register_is}
 use Rattle.sfi_formats.specs.Limits.{slack}
-use Rattle.sfi_safe_runs.proofs.Prelude.{◌≡◌, ℕ, ◌%◌, List, true, false, refl, sym, ap, ◌∙◌, false≢true, Part, IsUnitStart, IsTyped, Format, Sfi1, Sfi2, Sfiw, Sfis, ◌≢◌, zero, suc, ◌+◌, ◌-◌, ◌^◌, ◌<◌, ◌≤◌, ◌==◌, ◌⊎◌, Bool, cond, [], ◌∷◌, length, Option, Some, None, inl, inr, ⊎_elim, cases_lt, subst, arith, slice_index, Bytes, IsMemory, byte_at, AreApart, code_region, guarded_region, IsRightPart, Hart, IsHart, InGuard, HasReserved, IsEntry, CanBeEntered, ◌||◌, or_cases, eqb-true, with_register, unit, has_words, InData, IsNear, IsWordStart}
+use Rattle.sfi_safe_runs.proofs.Prelude.{◌≡◌, ℕ, ◌%◌, List, true, false, refl, sym, ap, ◌∙◌, false≢true, Part, IsUnitStart, IsTyped, Format, Sfi1, Sfi2, Sfiw, Sfis, ◌≢◌, zero, suc, ◌+◌, ◌-◌, ◌^◌, ◌<◌, ◌≤◌, ◌==◌, ◌⊎◌, Bool, cond, [], ◌∷◌, length, Option, Some, None, inl, inr, ⊎_elim, cases_lt, subst, arith, slice_index, Bytes, IsMemory, byte_at, AreApart, code_region, guarded_region, IsRightPart, Hart, IsHart, InGuard, HasReserved, IsEntry, CanBeEntered, ◌||◌, or_cases, eqb-true, with_register, unit, has_words, InData, IsWordStart}
 use Rattle.sfi_image.specs.declared.span.Span.{Span}
 
 -- ==== What the formats ask.

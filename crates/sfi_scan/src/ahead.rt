@@ -1,5 +1,5 @@
 //! The instructions directly after a place.
-ghost use Rattle.std.specs.Prelude.{◌≡◌, ◌+◌, ◌≤◌, length, List, []};
+ghost use Rattle.std.specs.Prelude.{◌≡◌, ◌+◌, ◌≤◌, List, []};
 ghost use Rattle.sfi_scan.specs.private.Blocks.{ahead};
 ghost use Rattle.sfi_rules.specs.Readings.{Piece, IsLongestReading};
 

@@ -2,13 +2,13 @@
 //! bundle's place. Most say what the definition of the same name in specs/Rules or specs/Readings
 //! of `sfi_rules` does. `before` has the two instructions before it in the bundle; `address` is its
 //! own.
-ghost use Rattle.std.specs.Prelude.{◌≡◌, ◌&&◌, not, List};
+ghost use Rattle.std.specs.Prelude.{◌≡◌, ◌&&◌, List};
 ghost use Rattle.rv_word.specs.Spelling.{offset_by};
 ghost use Rattle.rv_word.specs.declared.instr.Instr.{Instr};
 ghost use Rattle.sfi_rules.specs.Readings.{Piece, IsLongestReading};
 ghost use Rattle.sfi_rules.specs.Readings.{writes_stack, is_stack_pair, begins_pair, ends_pair, precedes_pair, is_jump};
 ghost use Rattle.sfi_rules.specs.Readings.{IsWithin};
-ghost use Rattle.sfi_rules.specs.Rules.{InstrInBundle, is_empty, is_bundle_start, is_last_bundle, breaks_ecall, breaks_reserved, breaks_access, breaks_jump, breaks_target, breaks_stack, may_write_stack, may_access, ends_region};
+ghost use Rattle.sfi_rules.specs.Rules.{InstrInBundle, is_empty, is_bundle_start, is_last_bundle, breaks_ecall, breaks_reserved, breaks_access, breaks_jump, breaks_target, breaks_stack, ends_region};
 ghost use Rattle.sfi_rules.specs.Findings.{lowest, all_rules};
 ghost use Rattle.sfi_scan.specs.private.Blocks.{near, ahead, finding_of};
 

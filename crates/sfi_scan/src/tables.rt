@@ -2,7 +2,7 @@
 //! may be written, as most do, and the words of the pair that puts a register into the data region.
 //! They hold what the reserved registers and the decoding of `rv_comp` imply: where those change,
 //! so do these.
-ghost use Rattle.std.specs.Prelude.{◌≡◌, not, List, true};
+ghost use Rattle.std.specs.Prelude.{◌≡◌, List, true};
 ghost use Rattle.std.specs.Bool.{OnTrue};
 ghost use Rattle.rv_word.specs.declared.instr.Instr.{Instr};
 ghost use Rattle.sfi_formats.specs.Formats.{has_stack};

@@ -1,7 +1,7 @@
 //! The calls of C. Each changes at most the slot `number`, counted from 0, and returns whether it
 //! did: false where the call isn't due, since the slot isn't in a state for it, or there is no such
 //! slot, and then nothing changes. What each makes of its slot is in changes.rt.
-ghost use Rattle.std.specs.Prelude.{◌≡◌, ◌<◌, ◌↔◌, IsTrue, IsSome, Bool, Some, Option, length, replicate, slice_get, is_some};
+ghost use Rattle.std.specs.Prelude.{◌≡◌, ◌<◌, ◌↔◌, IsTrue, Bool, Some, Option, length, replicate, slice_get, is_some};
 ghost use Rattle.sfi_slots.specs.declared.slot.SfiSlot.{SfiSlot};
 ghost use Rattle.sfi_slots.specs.Slots.{MayEnter, IsApartFromOthers, empty_slot, begun, accepted, refused, tried, placing, grown, turned, confirmed, rolled_back, removed, next_of, with_next, slots_after};
 

@@ -1,8 +1,8 @@
 //! A slot and its two versions. A version is kept if its image was accepted and it wasn't dropped:
 //! it may run, now or later.
-ghost use Rattle.std.specs.Prelude.{◌≡◌, ◌≢◌, ◌<◌, ◌↔◌, ℕ, IsTrue, length, slice_get, Some};
+ghost use Rattle.std.specs.Prelude.{◌≡◌, ◌≢◌, ◌<◌, ◌↔◌, IsTrue, slice_get, Some};
 ghost use Rattle.sfi_slots.specs.declared.slot.SfiSlot.{SfiSlot};
-ghost use Rattle.sfi_slots.specs.Slots.{IsKept, IsApartFrom, IsApartFromSlot, IsApartFromOthers, MayEnter, new_version, unit_of};
+ghost use Rattle.sfi_slots.specs.Slots.{IsApartFrom, IsApartFromSlot, IsApartFromOthers, MayEnter, new_version, unit_of};
 
 use crate::bounds::{SfiBounds, format_numbered, lie_apart};
 use sfi_formats::BUNDLE_SIZE;

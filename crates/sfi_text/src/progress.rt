@@ -2,7 +2,7 @@
 ghost use Rattle.std.specs.Prelude.{◌≡◌, ◌⊎◌, ◌↔◌, List, ℕ, None, Some, IsTrue, IfOk, IfErr, OnOk, MatchOption, codes};
 ghost use Rattle.sfi_text.specs.declared.cause.TextCause.TheVariants as cause;
 ghost use Rattle.sfi_text.specs.SoFar.{Labels, RefusesLabel, MayCome, Does, HasNoRoom};
-ghost use Rattle.sfi_text.specs.Texts.{BeginsWithName, IsTaken, IsGateTwice, IsKnown, KnownRefused, LeadsAfter, Leads, LabelRefused, RefusedAfter, RefusedFrom, LineRefused};
+ghost use Rattle.sfi_text.specs.Texts.{BeginsWithName, IsTaken, IsGateTwice, IsKnown, LeadsAfter, Leads, LabelRefused, RefusedAfter, RefusedFrom, LineRefused};
 ghost use Rattle.sfi_text.specs.private.Lines.{IsLineStart, PassesTo, LeadsFrom};
 ghost use Rattle.sfi_text.specs.SoFar.{format_or_sfi1, has_tables, nothing, with_sandbox};
 ghost use Rattle.sfi_text.specs.private.Lines.{stated, position_of_stated};

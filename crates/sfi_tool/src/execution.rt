@@ -1,12 +1,10 @@
 //! The command `exec`, over what was read of an image, and a process's streams.
 
-ghost use Rattle.std.specs.Prelude.{◌≡◌, ◌≢◌, ◌⊎◌, IfErr, IfOk, ℕ, List, false};
-ghost use Rattle.std.specs.Io.KnownBytes.{Appends};
+ghost use Rattle.std.specs.Prelude.{◌≡◌, ◌≢◌, ◌⊎◌, IfErr, IfOk, false};
 ghost use Rattle.sfi_answers.specs.Answers.{IsAcceptedImage, Refuses, check};
 ghost use Rattle.sfi_answers.specs.FaultTexts.{stop_text};
 ghost use Rattle.sfi_answers.specs.declared.fault.InputFault.TheVariants.{TooLarge};
 ghost use Rattle.sfi_answers.specs.declared.fault.Stop.TheVariants as stops;
-ghost use Rattle.sfi_image.specs.Spelling.{Part};
 ghost use Rattle.sfi_tool.specs.Executing.{Begins, Executes, HasBegun, HasExecuted, IsAcceptedThat, IsRefusalLine, OfText, Tells, TellsOf, number_of};
 ghost use Rattle.sfi_io.specs.Hexadecimal.{IsInput};
 ghost use Rattle.sfi_tool.specs.declared.execution.ExecFault.TheVariants.{Image, Interrupted};

@@ -1,5 +1,4 @@
 //! The host that answers a get of `exec`: it hands over a piece of the input, which was read before.
-ghost use Rattle.sfi_host.specs.Hosts.{HasData, SameMemory};
 
 use rv_mem::Memory;
 use sfi_host::{GateAnswer, Gates, Guest};
@@ -13,7 +12,6 @@ pub struct Piece<'a> {
 }
 
 impl Gates for Piece<'_> {
-    ghost use Rattle.sfi_host.specs.Hosts.{IsAnswered, IsRefused, LeavesOthers};
     ghost use Rattle.sfi_host.specs.Waiting.{never};
     ghost use Rattle.sfi_tool.specs.private.{piece_answer};
 

@@ -1,8 +1,7 @@
 //! The line of an instruction, as `line_text` of specs/Translation.antt says.
-ghost use Rattle.std.specs.Prelude.{◌≡◌, ◌++◌, OnOk, codes, string_bytes};
-ghost use Rattle.rv_word.specs.Spelling.{offset_by};
+ghost use Rattle.std.specs.Prelude.{◌≡◌, ◌++◌, OnOk, string_bytes};
 ghost use Rattle.rv_word.specs.declared.instr.Instr.TheVariants as instr;
-ghost use Rattle.sfi_translate.specs.Translation.{opening, name_field, number_field, signed_field, address_field, closing, far, line_text};
+ghost use Rattle.sfi_translate.specs.Translation.{opening, name_field, number_field, signed_field, closing, far, line_text};
 
 use crate::fields::{
     push_address_field, push_closing, push_name_field, push_number_field, push_opening,

@@ -1,9 +1,8 @@
 //! The translation of an image. Each `push_` function appends to `out`; its one error is that an
 //! allocation was refused.
-ghost use Rattle.std.specs.Prelude.{◌≡◌, ◌+◌, ◌^◌, ◌<◌, ◌≤◌, ◌++◌, OnOk, IfOk, Bool, length, string_bytes, codes};
+ghost use Rattle.std.specs.Prelude.{◌≡◌, ◌+◌, ◌^◌, ◌<◌, ◌≤◌, ◌++◌, OnOk, IfOk, length, string_bytes};
 ghost use Rattle.sfi_image.specs.Spelling.{view};
 ghost use Rattle.sfi_image.specs.Parts.{IsRightPart};
-ghost use Rattle.sfi_translate.specs.Translation.{address_line};
 ghost use Rattle.sfi_translate.specs.Translation.{function_line, masks, spelled, sandbox_line, gate_line, data_line, last_line, IsCodeText, IsSandboxText, IsTranslation};
 ghost use Rattle.sfi_translate.specs.Lines.{function_lines, entry_lines, head_lines};
 ghost use Rattle.sfi_translate.specs.private.{Adds, IsReadingText, IsUnitText};

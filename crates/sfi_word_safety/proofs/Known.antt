@@ -1,5 +1,5 @@
 -- What is known of the typed registers before an instruction, and what it makes of that.
-use Rattle.sfi_word_safety.proofs.Prelude.{◌≡◌, ℕ, ◌+◌, ◌<◌, ◌≤◌, ◌⊎◌, List, ◌∷◌, length, true, false, not, ◌&&◌, ◌||◌, ◌==◌, refl, sym, ap, ◌∙◌, subst, inl, inr, ⊎_elim, arith, Option, Some, None, ℤ, slice_index, bit_and, bit_or, and_parts, or_cases, eqb-true, eq-eqb, not-false, false≢true, cases_Bool, offset_by, InRange, IsImm12, destination, is_register, writes_register, Instr, Op, OpImm, Load, Store, Branch, Jal, Jalr, Ecall, Addi, And, Or, Add, Bytes, address_after, Accesses, Hart, register, effect, word, result_of, load_size, store_size, is_masking, is_placing, Part, Piece, is_jump, InData, InGuard, is_data_register_in, IsWordStart, IsNear, HasReserved, AreWordsTyped, places, masks, begins_placing, begins_masking, begins_using, begins_code, is_pointer_step, uses, is_small, may_access, breaks_access, may_write_data, breaks_data_of, breaks_data, may_write_code, breaks_code, breaks_offset, IsRightPart, has_words, ◌-◌, IsKnown, IsCodeKnown, AreKnown, Format, has_single_mask, IsNearIn, is_or, Bool, cond}
+use Rattle.sfi_word_safety.proofs.Prelude.{◌≡◌, ℕ, ◌+◌, ◌<◌, ◌≤◌, ◌⊎◌, List, ◌∷◌, length, true, false, not, ◌&&◌, ◌||◌, ◌==◌, refl, sym, ap, ◌∙◌, subst, inl, inr, ⊎_elim, arith, Option, Some, None, ℤ, slice_index, bit_and, bit_or, and_parts, or_cases, eqb-true, eq-eqb, not-false, false≢true, cases_Bool, offset_by, InRange, IsImm12, destination, is_register, writes_register, Instr, Op, OpImm, Load, Store, Branch, Jal, Jalr, Ecall, Addi, And, Or, Add, Bytes, address_after, Accesses, Hart, register, effect, word, result_of, load_size, store_size, is_masking, is_placing, Part, Piece, is_jump, InData, InGuard, is_data_register_in, IsWordStart, IsNear, HasReserved, AreWordsTyped, places, masks, begins_placing, begins_masking, begins_using, begins_code, is_pointer_step, uses, is_small, may_access, breaks_access, may_write_data, breaks_data_of, breaks_data, may_write_code, breaks_code, breaks_offset, IsRightPart, has_words, ◌-◌, IsKnown, IsCodeKnown, AreKnown, Format, has_single_mask, IsNearIn, Bool, cond}
 use Rattle.sfi_formats.specs.Formats.{code_most, data_most}
 use Rattle.sfi_safe_runs.proofs.Accessing.{imm12_within, first_address, load_sized, store_sized, load_range, store_range, masked_code}
 use Rattle.sfi_safe_runs.proofs.Beside.{one_step_placed, beside_access, beside_stepped, beside_used}

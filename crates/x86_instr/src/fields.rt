@@ -1,7 +1,7 @@
 //! The numbers that fields of instructions have for operations and conditions. Each function mirrors a
 //! definition of specs/Spelling.antt.
 ghost use Rattle.std.specs.Prelude.{◌≡◌, ◌<◌};
-ghost use Rattle.x86_instr.specs.Spelling.{alu_number, condition_number, divide_number, extension_opcode, is_short, byte_extended, rex_w, shift_number, unary_number};
+ghost use Rattle.x86_instr.specs.Spelling.{alu_number, condition_number, divide_number, extension_opcode, is_short, rex_w, shift_number, unary_number};
 
 use crate::instr::{AluOp, Condition, DivideOp, Extension, Narrow, ShiftOp, UnaryOp, Width};
 

@@ -2,7 +2,7 @@
 //! holds an address in the data region or near it, so a load or store on it needs no mask, but what
 //! writes it does.
 ghost use Rattle.std.specs.Prelude.{◌≡◌, ◌∷◌, ◌++◌, ◌+◌, ◌≤◌, [], Some, length};
-ghost use Rattle.sfi_rewrite.specs.words.Expansion.{is_made_on_x26, base_of, data_mask, makes_base, before, mask_after, IsConfined, IsPlainExpansion, IsExpansion, is_step_to, is_step_before_use, is_zero, is_move, moved, IsAround};
+ghost use Rattle.sfi_rewrite.specs.words.Expansion.{is_made_on_x26, base_of, data_mask, makes_base, before, mask_after, IsConfined, IsPlainExpansion, IsExpansion, is_step_to, is_step_before_use, is_move, moved, IsAround};
 ghost use Rattle.rv_word.specs.Outlines.{destination};
 ghost use Rattle.rv_word.specs.declared.instr.RegOp.TheVariants.{And};
 ghost use Rattle.rv_word.specs.declared.instr.Instr.TheVariants.{Op};

@@ -1,8 +1,6 @@
 //! Each service of the console, called over a memory, without an image. What it answers is what
 //! docs/GATES.md says. Services are exit 0, put 1, get 2, yield 3, post 4 and take 5; the console
 //! serves the sandboxes 0 and 1.
-ghost use Rattle.rv_mem.specs.Segments.{bytes_of};
-ghost use Rattle.sfi_host.specs.Slots.{bytes_in, IsWhole};
 
 use super::guests::{DATA, call, memory, request};
 use rv_mem::{Memory, Width};

@@ -1,4 +1,4 @@
-use Rattle.sfi_host.proofs.Prelude.{◌≡◌, ◌+◌, ◌++◌, List, drop, sym, subst, arith, Format, view, views, Part}
+use Rattle.sfi_host.proofs.Prelude.{◌≡◌, ◌+◌, ◌++◌, List, drop, sym, subst, arith, view, views, Part}
 use Rattle.sfi_host.specs.Modules.{part_of, parts_of, program_in, HavePrograms}
 use Rattle.sfi_decoded.specs.Programs.{IsProgramOf}
 use Rattle.sfi_host.specs.declared.modules.ModulePart.{ModulePart}

@@ -1,4 +1,4 @@
-use Rattle.sfi_io.proofs.Prelude.{◌≡◌, ◌∙◌, List, ℕ, inl, inr}
+use Rattle.sfi_io.proofs.Prelude.{◌≡◌, ◌∙◌, inl, inr}
 use Rattle.sfi_io.specs.Hexadecimal.{GivesImage}
 use Rattle.sfi_io.proofs.Leads.{texts_begin_as_none}
 use Rattle.sfi_io.proofs.image.image_bytes.Goals as goal

@@ -1,4 +1,3 @@
-use Rattle.sfi_masks.specs.private.{words}
 use Rattle.sfi_masks.proofs.Block.{are_quarters, are_masks}
 use Rattle.sfi_masks.proofs.masks.word_masks_of.Goals as goal
 

@@ -1,4 +1,4 @@
-use Rattle.sfi_host.proofs.Prelude.{◌≡◌, ◌↔◌, IsTrue, true, false, set, slice_get, Some, refl, sym, ap, ◌∙◌, subst, arith, slice_get_past, same_Some, Hart, IsHart, Sandbox, seat_of, world_of, slot_of, slots_of}
+use Rattle.sfi_host.proofs.Prelude.{◌≡◌, ◌↔◌, true, false, set, slice_get, Some, refl, sym, ◌∙◌, subst, arith, slice_get_past, same_Some, Sandbox, seat_of, world_of, slot_of}
 use Rattle.sfi_host.specs.Modules.{programs_of}
 use Rattle.sfi_host.specs.Changing.{IsEntryHart}
 use Rattle.sfi_host.proofs.WorldBytes.{found_there, seat_at}
