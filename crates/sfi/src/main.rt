@@ -23,11 +23,11 @@ const NO_TEXT: &[u8] = b"error: an argument is not UTF-8\n\nFor more information
 
 /// The status for arguments that can't be had: 4 where an allocation was refused; else they aren't
 /// UTF-8, which is written to standard output, and it is 3, or 5 where that can't be written.
-fn without_words(rt: HostRuntime, kind: ErrorKind) -> u8 {
+fn without_words(rt: &HostRuntime, kind: ErrorKind) -> u8 {
     if kind == ErrorKind::OutOfMemory {
         return 4;
     }
-    let mut writer = io::writer(&rt);
+    let mut writer = io::writer(rt);
     if write_out(&mut writer, NO_TEXT) {
         3
     } else {
@@ -176,23 +176,27 @@ fn run_explained(rt: &HostRuntime, alloc: Global, words: &[String]) -> u8 {
     status
 }
 
-/// Runs the command that the arguments name, and gives the exit status.
-fn status(rt: HostRuntime) -> u8 {
-    let alloc = rt.alloc();
-    let args = match env::args(&rt) {
+/// The arguments, or why they can't be had: they aren't UTF-8, or memory ran out.
+fn words_of(rt: &HostRuntime, alloc: Global) -> Result<Vec<String>, ErrorKind> {
+    let args = match env::args(rt) {
         Ok(args) => args,
-        Err(error) => return without_words(rt, error.kind()),
+        Err(error) => return Err(error.kind()),
     };
-    let Ok(words) = args.collect::<Vec<String>>(alloc) else {
-        return 4;
-    };
-    if let Some(status) = run_exec(&rt, alloc, words.as_slice()) {
-        return status;
+    match args.collect::<Vec<String>>(alloc) {
+        Ok(words) => Ok(words),
+        Err(_) => Err(ErrorKind::OutOfMemory),
     }
-    run_explained(&rt, alloc, words.as_slice())
 }
 
-/// Runs the command, and exits with its status.
+/// Runs the command that the arguments name, and exits with its status.
 fn main(rt: HostRuntime) -> ExitCode {
-    ExitCode::from(status(rt))
+    let alloc = rt.alloc();
+    let status = match words_of(&rt, alloc) {
+        Ok(words) => match run_exec(&rt, alloc, words.as_slice()) {
+            Some(status) => status,
+            None => run_explained(&rt, alloc, words.as_slice()),
+        },
+        Err(kind) => without_words(&rt, kind),
+    };
+    ExitCode::from(status)
 }

@@ -124,37 +124,10 @@ impl Feed {
         }
     }
 
-    /// Takes bytes from the front of `bytes`, and returns how many: where some are held, as many as
-    /// make what comes next whole with these, and else all. After a fault all, which change
-    /// nothing.
-    fn top_up<F: FindingSink, const BLOCKS: bool>(&mut self, bytes: &[u8], sink: &mut F) -> usize
-        requires some { 0 < length bytes.now }
-        requires fed { (first : F) × (before : List ℕ)
-            × IsFedFinding (λ found. F.takes first found sink.old) self.old before }
-        ensures some { 0 < result }
-        ensures bound { result ≤ length bytes.now }
-        ensures fed { IsFedOn F.takes sink.old sink.new self.old self.new (take result bytes.now) }
-        ensures at_most { left_to_feed self.new ≤ left_to_feed self.old }
-        ensures falls { self.old.fault ≡ None → left_to_feed self.new < left_to_feed self.old }
-    {
-        if self.fault.is_some() {
-            return bytes.len();
-        }
-        if self.count == 0 {
-            self.take_all::<F, BLOCKS>(bytes, sink);
-            return bytes.len();
-        }
-        let more = bytes.len().min(self.wanted() - self.count);
-        let end = self.count + more;
-        let mut joined = self.held;
-        joined[self.count..end].copy_from_slice(&bytes[..more]);
-        self.take_all::<F, BLOCKS>(&joined[..end], sink);
-        more
-    }
-
     /// Takes the bytes that come next, any number of them, and hands the findings in what is whole
-    /// with them to the sink. `BLOCKS` says how code is scanned: `IN_BLOCKS` or `BUNDLE_BY_BUNDLE`
-    /// of `sfi_scan`.
+    /// with them to the sink. Where bytes are held, they come first, with as many as make what comes
+    /// next whole. After a fault nothing changes. `BLOCKS` says how code is scanned: `IN_BLOCKS` or
+    /// `BUNDLE_BY_BUNDLE` of `sfi_scan`.
     pub(crate) fn feed_into<F: FindingSink, const BLOCKS: bool>(
         &mut self,
         bytes: &[u8],
@@ -168,7 +141,19 @@ impl Feed {
     {
         let mut at = 0;
         while at < bytes.len() {
-            at += self.top_up::<F, BLOCKS>(&bytes[at..], sink);
+            if self.fault.is_some() {
+                return;
+            }
+            if self.count == 0 {
+                return self.take_all::<F, BLOCKS>(&bytes[at..], sink);
+            }
+            // As many as make what comes next whole with the held bytes.
+            let more = (bytes.len() - at).min(self.wanted() - self.count);
+            let end = self.count + more;
+            let mut joined = self.held;
+            joined[self.count..end].copy_from_slice(&bytes[at..at + more]);
+            self.take_all::<F, BLOCKS>(&joined[..end], sink);
+            at += more;
         }
     }
 

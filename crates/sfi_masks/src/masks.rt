@@ -29,7 +29,7 @@ pub struct Masks {
 }
 
 /// The masks of a quarter of a block, two bundles: 16 halfwords, in the low bits of each mask.
-/// `stack` as in [`masks_of`].
+/// `stack` says whether x2 is a stack pointer.
 #[inline(always)]
 fn masks_of_quarter(stack: bool, bytes: &[u8]) -> Masks
     requires { length bytes.now ≡ 32 }
@@ -92,16 +92,16 @@ fn four_quarters(a: u64, b: u64, c: u64, d: u64) -> u64
     a | b << 16 | c << 32 | d << 48
 }
 
-/// The masks of the block's halfwords; `stack` says whether x2 is a stack pointer. A caller passes a
-/// constant, so that this isn't asked for at each vector.
+/// The masks of the block's halfwords in bundles; `STACK` says whether x2 is a stack pointer. It is compiled
+/// for each apart, so that it is part of a caller that has one alone.
 #[inline(always)]
-pub fn masks_of(stack: bool, block: &[u8; BLOCK_BYTES]) -> Masks
-    ensures { AreMasks stack block.now result }
+pub fn masks_of<const STACK: bool>(block: &[u8; BLOCK_BYTES]) -> Masks
+    ensures { AreMasks STACK block.now result }
 {
-    let first = masks_of_quarter(stack, &block[..32]);
-    let second = masks_of_quarter(stack, &block[32..64]);
-    let third = masks_of_quarter(stack, &block[64..96]);
-    let fourth = masks_of_quarter(stack, &block[96..]);
+    let first = masks_of_quarter(STACK, &block[..32]);
+    let second = masks_of_quarter(STACK, &block[32..64]);
+    let third = masks_of_quarter(STACK, &block[64..96]);
+    let fourth = masks_of_quarter(STACK, &block[96..]);
     Masks {
         long: four_quarters(first.long, second.long, third.long, fourth.long),
         free: four_quarters(first.free, second.free, third.free, fourth.free),

@@ -294,15 +294,15 @@ fn stack_writes(stack: bool, block: &[u8; BLOCK_BYTES], words: u64, places: u64)
 
 /// A mask with bits in each bundle that isn't seen to be clean: at the instructions that may break
 /// a rule; or at all halfwords of the block, where instructions don't begin as guessed, or one
-/// crosses a bundle's end.
+/// crosses a bundle's end. `STACK` as in `masks_of`.
 #[inline(always)]
-fn doubtful_places(place: &BundlePlace, stack: bool, block: &[u8; BLOCK_BYTES]) -> u64
+fn doubtful_places<const STACK: bool>(place: &BundlePlace, block: &[u8; BLOCK_BYTES]) -> u64
     requires within { IsWithinBlock place.now }
-    requires stack { stack ≡ has_stack place.now.format }
+    requires stack { STACK ≡ has_stack place.now.format }
     ensures { (k : ℕ) → k < 8 → ((j : ℕ) → j < 8 → is_in result (8 * k + j) ≡ false) →
         AreReadingFindings (bundle_at place.now k) (block_bundle block.now k) [] }
 {
-    let masks = masks_of(stack, block);
+    let masks = masks_of::<STACK>(block);
     let starts = starts_of(masks.long);
     if !are_starts(starts, masks.long) {
         return u64::MAX;
@@ -313,13 +313,13 @@ fn doubtful_places(place: &BundlePlace, stack: bool, block: &[u8; BLOCK_BYTES]) 
     }
     let words = starts & masks.long;
     let after = after_two(words);
-    let accesses = clean_accesses(stack, block, after, left & words & masks.access);
+    let accesses = clean_accesses(STACK, block, after, left & words & masks.access);
     let others = bits_without(left, accesses);
     let rest = bits_without(
         others,
-        clean_others(place, stack, block, words, after, others),
+        clean_others(place, STACK, block, words, after, others),
     );
-    bits_without(rest, stack_writes(stack, block, words, rest))
+    bits_without(rest, stack_writes(STACK, block, words, rest))
 }
 
 /// A bit for each bundle in which `places` has no bit, the lowest for the first bundle.
@@ -351,9 +351,9 @@ pub fn clean_bundles(place: &BundlePlace, block: &[u8; BLOCK_BYTES]) -> u8
         AreReadingFindings (bundle_at place.now i) (block_bundle block.now i) [] }
 {
     let places = if place.format.has_stack() {
-        doubtful_places(place, true, block)
+        doubtful_places::<true>(place, block)
     } else {
-        doubtful_places(place, false, block)
+        doubtful_places::<false>(place, block)
     };
     bundles_without(places)
 }

@@ -72,33 +72,10 @@ fn scan_bundle_of_words<F: FindingSink>(
     next
 }
 
-/// Looks at the block that [`block_start`] gives for byte `at`, at its words from that byte on. If
-/// they are seen to break no rule, returns the offset after the block, and what is owed there; else
-/// `None`, also where no block is given.
-#[inline(always)]
-fn look_at_next_block<const SINGLE: bool>(
-    place: &BundlePlace,
-    code: &[u8],
-    at: usize,
-    owed: Owed,
-    findings: &mut BundleFindings,
-) -> Option<(usize, Owed)>
-    requires single { SINGLE ≡ has_single_mask place.now.format }
-    requires stretch { (n : ℕ) × (k : ℕ) × IsStretch place.now code.now n × (at ≡ bundle_size * k) × (k < n) }
-    ensures { (k : ℕ) → at ≡ bundle_size * k → IfSome result (λ seen.
-        IsFrontClean place.now owed code.now k seen.0 seen.1) }
-{
-    let start = block_start::<IN_BLOCKS>(place, code, at)?;
-    let first = place_after(place, start);
-    let block = bytes_from::<BLOCK_BYTES>(code, start);
-    let next = look_at_block::<SINGLE>(&first, block, (at - start) / 4, owed, findings)?;
-    Some((start + BLOCK_BYTES, next))
-}
-
-/// Looks at blocks of the stretch from byte `at` on, until one isn't seen to break no rule. Returns
-/// the offset up to which all is clean, the stretch's end at most, and what is owed there. It is
-/// compiled once for all sinks, and for single masks and others apart, so that each loop holds its
-/// own tables.
+/// Looks at blocks of the stretch from byte `at` on, as [`block_start`] gives them, until one isn't
+/// seen to break no rule, or none is given. Returns the offset up to which all is clean, the
+/// stretch's end at most, and what is owed there. It is compiled once for all sinks, and for single
+/// masks and others apart, so that each loop holds its own tables.
 #[inline(never)]
 fn skip_clean_blocks<const SINGLE: bool>(
     place: &BundlePlace,
@@ -114,10 +91,16 @@ fn skip_clean_blocks<const SINGLE: bool>(
     let mut end = at;
     let mut left = owed;
     while end < code.len() {
-        let Some((to, next)) = look_at_next_block::<SINGLE>(place, code, end, left, findings) else {
+        let Some(start) = block_start::<IN_BLOCKS>(place, code, end) else {
             return (end, left);
         };
-        end = to;
+        let first = place_after(place, start);
+        let block = bytes_from::<BLOCK_BYTES>(code, start);
+        let from = (end - start) / 4;
+        let Some(next) = look_at_block::<SINGLE>(&first, block, from, left, findings) else {
+            return (end, left);
+        };
+        end = start + BLOCK_BYTES;
         left = next;
     }
     (end, left)
@@ -187,30 +170,6 @@ fn scan_bundles<F: FindingSink>(
     (end, left)
 }
 
-/// Scans a stretch from byte `at` on: blocks as long as they are seen to be clean, and then bundle
-/// by bundle up to the end of the next block, or the next bundle alone where there is no block.
-/// Returns the offset of the first byte that isn't scanned yet, and what is owed there.
-#[inline(always)]
-fn scan_next_words<F: FindingSink, const BLOCKS: bool>(
-    place: &BundlePlace,
-    code: &[u8],
-    at: usize,
-    owed: Owed,
-    sink: &mut F,
-    findings: &mut BundleFindings,
-) -> (usize, Owed)
-    requires { (n : ℕ) × (k : ℕ) × IsStretch place.now code.now n × (at ≡ bundle_size * k) × (k < n) }
-    ensures { (k : ℕ) → at ≡ bundle_size * k
-        → IsWordFrontScanned F.takes place.now owed code.now k result.0 result.1 sink.old sink.new }
-{
-    let (end, left) = skip_clean_code::<BLOCKS>(place, code, at, owed, findings);
-    if end == code.len() {
-        return (end, left);
-    }
-    let stop = doubtful_end::<BLOCKS>(place, code, end);
-    scan_bundles(place, code, end, stop, left, sink, findings)
-}
-
 /// Scans a stretch of code in words, in blocks or bundle by bundle, with `owed` owed before it, and
 /// hands the findings of each 16 bytes to the sink, in order. Returns what is owed after it. The
 /// scan of code in bundles is `scan_code`.
@@ -228,9 +187,13 @@ pub(crate) fn scan_words_as<F: FindingSink, const BLOCKS: bool>(
     let mut left = owed;
     let mut at = 0;
     while at < code.len() {
-        let (end, next) = scan_next_words::<F, BLOCKS>(place, code, at, left, sink, &mut findings);
-        at = end;
-        left = next;
+        let (end, next) = skip_clean_code::<BLOCKS>(place, code, at, left, &mut findings);
+        if end == code.len() {
+            return next;
+        }
+        // The block there, or the bundle, isn't seen to be clean.
+        let stop = doubtful_end::<BLOCKS>(place, code, end);
+        (at, left) = scan_bundles(place, code, end, stop, next, sink, &mut findings);
     }
     left
 }

@@ -379,23 +379,6 @@ fn without_single_masks(single: bool, block: &[u8; BLOCK_BYTES], words: u64) -> 
     bits_without(words, single_masks_of(block))
 }
 
-/// First the words that are still to be looked at: each other breaks no rule if nothing is owed
-/// before it, and leaves nothing owed. Second, where free instructions of 32 bits begin. `SINGLE`
-/// as in `word_masks_of`.
-#[inline(always)]
-fn told_by_masks<const SINGLE: bool>(place: &BundlePlace, block: &[u8; BLOCK_BYTES]) -> (u64, u64)
-    requires within { IsWithinBlock place.now }
-    requires single { SINGLE ≡ has_single_mask place.now.format }
-    ensures words { (i : ℕ) → i < 64 → is_in result.0 i ≡ true → i % 2 ≡ 0 }
-    ensures quiet { (n : ℕ) → n < 32 → is_in result.0 (2 * n) ≡ false → IsQuietWord place.now block.now (2 * n) }
-    ensures free { (i : ℕ) → i < 64 → i % 2 ≡ 0 → is_in result.1 i ≡ true →
-        IsFreeWordBy may_write_in_words (may_be_on_in_words (has_single_mask place.now.format)) (block_word block.now i) }
-{
-    let masks = word_masks_of::<SINGLE>(block);
-    let words = without_single_masks(SINGLE, block, not_free(masks));
-    (words, masks.free & masks.long)
-}
-
 /// Whether nothing is owed.
 #[inline(always)]
 fn is_nothing(owed: Owed) -> bool
@@ -420,7 +403,9 @@ pub(crate) fn look_at_block<const SINGLE: bool>(
     requires inside { from < 32 }
     ensures { IfSome result (AreCleanWords place.now owed block.now from (32 - from)) }
 {
-    let (words, free) = told_by_masks::<SINGLE>(place, block);
+    let masks = word_masks_of::<SINGLE>(block);
+    // Each other word breaks no rule if nothing is owed before it, and leaves nothing owed.
+    let words = without_single_masks(SINGLE, block, not_free(masks));
     if words == 0 {
         if is_nothing(owed) {
             return Some(Owed::Nothing);
@@ -428,6 +413,6 @@ pub(crate) fn look_at_block<const SINGLE: bool>(
     }
     // A copy, so that the place isn't put together in memory where it isn't needed.
     let there = *place;
-    let left = doubtful_words(&there, block, words, free);
+    let left = doubtful_words(&there, block, words, masks.free & masks.long);
     after_words(&there, block, left, from, owed, findings)
 }

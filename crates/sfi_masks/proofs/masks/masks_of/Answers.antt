@@ -2,7 +2,7 @@ use Rattle.sfi_masks.proofs.Block.{are_quarters, are_masks}
 use Rattle.sfi_masks.proofs.masks.masks_of.Goals as goal
 
 pub returns : goal.returns
-returns c =
+returns g c =
     let a = c.masks_of_quarter-first in
     let b = c.masks_of_quarter-second in
     let d = c.masks_of_quarter-third in
