@@ -6,7 +6,7 @@ use Rattle.sfi_image.specs.declared.fields.Fields.{Fields}
 use Rattle.sfi_image.specs.Spelling.{fields_of, fields, gate, part, AreApart, code_region, guarded_region, spans, zone_end, zone_ends, IsClear, AreClear}
 use Rattle.sfi_image.proofs.Fronts.{length-fields}
 use Rattle.sfi_c.specs.declared.part.SfiPart.{SfiPart}
-use Rattle.sfi_c.specs.Parts.{Tells, told_at, told_part, format_number, lookup_number, IsBeyondGates}
+use Rattle.sfi_c.specs.Parts.{Tells, told_at, told_part, lookup_number, IsBeyondGates}
 use Rattle.sfi_image.specs.Keeping.{LiesAt, IsBeyond}
 use Rattle.sfi_image.proofs.Seeking.{length-gates, length-part, sandbox_lies}
 use Rattle.std.proofs.lemmas.List.Elements.{All-head, All-tail, All-nil, All-cons, All-from_recursion}
@@ -14,10 +14,9 @@ use Rattle.sfi_image.specs.declared.span.Span.{Span}
 use Rattle.sfi_places.specs.Beside.{AreBeside}
 use Rattle.sfi_formats.specs.declared.format.Format.{Format}
 use Rattle.sfi_formats.specs.declared.format.Format.TheVariants.{Sfi1, Sfi2, Sfiw, Sfis}
-use Rattle.sfi_formats.specs.Formats.{has_single_mask}
+use Rattle.sfi_formats.specs.Formats.{format_number, format_numbered, has_single_mask}
 use Rattle.sfi_c.specs.Moves.{told_bounds, AreToldApart}
 use Rattle.sfi_image.specs.Bounds.{IsClearOf}
-use Rattle.sfi_c.specs.Streams.{format_of}
 use Rattle.std.specs.Prelude.{slice_get}
 use Rattle.sfi_image.proofs.Facts.{one_image, never_both}
 use Rattle.sfi_c.specs.declared.looking.Lookup.{Lookup}
@@ -83,7 +82,7 @@ second P p all = All-head P (guarded_region p) [] (All-tail P (code_region p) (g
 
 -- ---- a zone at zero
 
-format_told : (f : Format) → format_of (format_number f) ≡ f
+format_told : (f : Format) → format_numbered (format_number f) ≡ f
 format_told Sfi1 = refl
 format_told Sfi2 = refl
 format_told Sfiw = refl

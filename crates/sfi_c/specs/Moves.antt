@@ -2,7 +2,7 @@
 use Rattle.sfi_image.specs.declared.bounds.Bounds.{Bounds}
 use Rattle.sfi_image.specs.Bounds.{AreBoundsApart}
 use Rattle.sfi_c.specs.declared.part.SfiPart.{SfiPart}
-use Rattle.sfi_c.specs.Streams.{format_of}
+use Rattle.sfi_formats.specs.Formats.{format_numbered}
 use Rattle.std.specs.Prelude.{ℕ}
 use Rattle.sfi_formats.specs.declared.place.Place.{Place}
 use Rattle.sfi_c.specs.declared.moving.MoveAnswer.{MoveAnswer}
@@ -11,7 +11,7 @@ use Rattle.sfi_c.specs.declared.moving.MoveAnswer.TheVariants.{Moved, Beyond, No
 -- where the sandbox lies, and its image's format
 abbrev pub told_bounds : SfiPart → Bounds
 told_bounds t = record {
-  format = format_of t.format;
+  format = format_numbered t.format;
   code_base = t.code_base;
   code_size = t.code_size;
   data_base = t.data_base;

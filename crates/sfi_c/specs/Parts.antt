@@ -3,8 +3,7 @@ use Rattle.std.specs.Prelude.{List, ◌++◌, length, map, take, drop, ◌≡◌
 use Rattle.sfi_rules.specs.declared.finding.Finding.{Finding}
 use Rattle.sfi_check.specs.declared.for_c.SfiFinding.{SfiFinding}
 use Rattle.sfi_check.specs.ForC.{finding_for_c}
-use Rattle.sfi_formats.specs.declared.format.Format.{Format}
-use Rattle.sfi_formats.specs.declared.format.Format.TheVariants.{Sfi1, Sfi2, Sfiw, Sfis}
+use Rattle.sfi_formats.specs.Formats.{format_number}
 use Rattle.sfi_image.specs.declared.part.Gate.{Gate}
 use Rattle.sfi_image.specs.Spelling.{Part}
 use Rattle.sfi_image.specs.Numbers.{fields_bytes, gate_bytes}
@@ -34,13 +33,6 @@ abbrev pub lookup_number : Lookup → ℕ
 lookup_number Found = 0
 lookup_number Beyond = 1
 lookup_number NoImage = 2
-
--- a format's number
-abbrev pub format_number : Format → ℕ
-format_number Sfi1 = 1
-format_number Sfi2 = 2
-format_number Sfiw = 3
-format_number Sfis = 4
 
 -- ---- sandboxes
 

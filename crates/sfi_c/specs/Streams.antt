@@ -2,8 +2,7 @@
 use Rattle.std.specs.Prelude.{◌==◌, ◌/◌, ◌%◌, ℕ, List, [], ◌∷◌, cond, take, Option, ◌≡◌, ◌≢◌, ◌⊎◌, ◌++◌, length}
 use Rattle.std.specs.List.{find}
 use Rattle.std.specs.Option.{option_map}
-use Rattle.sfi_formats.specs.declared.format.Format.{Format}
-use Rattle.sfi_formats.specs.declared.format.Format.TheVariants.{Sfi1, Sfi2, Sfiw, Sfis}
+use Rattle.sfi_formats.specs.Formats.{format_numbered}
 use Rattle.sfi_image.specs.declared.fields.Fields.{Fields}
 use Rattle.sfi_image.specs.declared.want.Stage.{Stage}
 use Rattle.sfi_image.specs.declared.want.Stage.TheVariants as stage
@@ -37,10 +36,6 @@ stage_of n =
     (cond (n == 5) stage.Init
     (cond (n == 6) stage.End stage.Nothing))))))
 
--- a format, by its number
-abbrev pub format_of : ℕ → Format
-format_of n = cond (n == 1) Sfi1 (cond (n == 2) Sfi2 (cond (n == 3) Sfiw Sfis))
-
 -- what is owed, by its number: one for its kind, plus 8 times its register
 abbrev pub owed_by : ℕ → ℕ → Owed
 owed_by kind register =
@@ -73,7 +68,7 @@ fault_of n = find (λ k. n == number_of k) all_faults
 -- the fields of the last sandbox that the stream keeps
 abbrev pub fields_of : SfiStream → Fields
 fields_of s = record {
-  format = format_of s.format;
+  format = format_numbered s.format;
   code_base = s.code_base;
   code_size = s.code_size;
   data_base = s.data_base;

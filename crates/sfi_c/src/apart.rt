@@ -6,8 +6,8 @@ ghost use Rattle.sfi_c.specs.Moves.{told_bounds, AreToldApart};
 ghost use Rattle.sfi_image.specs.Keeping.{IsSandboxOf};
 ghost use Rattle.sfi_c.specs.Parts.{Tells};
 
-use crate::numbers::format_numbered;
 use crate::part::SfiPart;
+use sfi_formats::Format;
 use sfi_image::{Bounds, are_bounds_apart};
 
 /// Where the sandbox lies, and its image's format.
@@ -15,7 +15,7 @@ fn bounds_of(part: &SfiPart) -> Bounds
     ensures { result ≡ told_bounds part.now }
 {
     Bounds {
-        format: format_numbered(part.format),
+        format: Format::numbered(part.format),
         code_base: part.code_base,
         code_size: part.code_size,
         data_base: part.data_base,

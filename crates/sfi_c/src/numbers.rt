@@ -2,11 +2,10 @@
 //! undoes `X_number`, and takes any other number, too, since C may pass one. A new variant goes
 //! into both, and into specs/Streams.
 ghost use Rattle.std.specs.Prelude.{◌≡◌};
-ghost use Rattle.sfi_c.specs.Parts.{format_number};
-ghost use Rattle.sfi_c.specs.Streams.{stage_of, format_of, owed_of, fault_of, first_finding};
+ghost use Rattle.sfi_c.specs.Streams.{stage_of, owed_of, fault_of, first_finding};
 
 use sfi_check::SfiFinding;
-use sfi_image::{Format, LayoutFault, Stage};
+use sfi_image::{LayoutFault, Stage};
 use sfi_rules::{Finding, Owed, Rule};
 
 /// The number of what a layout reader reads next.
@@ -38,32 +37,6 @@ pub(crate) fn stage_numbered(number: u32) -> Stage
         5 => Stage::Init,
         6 => Stage::End,
         _ => Stage::Nothing,
-    }
-}
-
-/// The number of a format, as `format` of `struct sfi_part` in include/sfi.h has it.
-pub(crate) fn format_number(format: Format) -> u32
-    ensures number { result ≡ format_number format }
-    ensures back { format_of result ≡ format }
-{
-    match format {
-        Format::Sfi1 => 1,
-        Format::Sfi2 => 2,
-        Format::Sfiw => 3,
-        Format::Sfis => 4,
-    }
-}
-
-/// The format of a number that `format_number` gives. C passes no other, as the header asks; 0 and all
-/// above 4 are taken for the fourth, so that each number has a format.
-pub(crate) fn format_numbered(number: u32) -> Format
-    ensures { result ≡ format_of number }
-{
-    match number {
-        1 => Format::Sfi1,
-        2 => Format::Sfi2,
-        3 => Format::Sfiw,
-        _ => Format::Sfis,
     }
 }
 

@@ -4,7 +4,6 @@ ghost use Rattle.sfi_image.specs.Spelling.{Part, part};
 ghost use Rattle.sfi_image.specs.Keeping.{IsViewOf};
 ghost use Rattle.sfi_c.specs.Parts.{told_at, told_gate, with_gates};
 
-use crate::numbers::format_number;
 use sfi_image::{Gate, PartView};
 
 /// A sandbox of an image: `struct sfi_part` of include/sfi.h, field for field.
@@ -55,7 +54,7 @@ pub(crate) fn part_for_c(view: &PartView<'_>, end: usize) -> SfiPart
     let fields = view.fields;
     let init_offset = end - fields.init_len as usize;
     SfiPart {
-        format: format_number(fields.format),
+        format: fields.format.number(),
         code_base: fields.code_base,
         code_size: fields.code_size,
         data_base: fields.data_base,

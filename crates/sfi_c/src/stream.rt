@@ -3,10 +3,11 @@ ghost use Rattle.std.specs.Prelude.{◌≡◌};
 ghost use Rattle.sfi_c.specs.Streams.{fields_of, reader_of, tally_of, feed_of};
 
 use crate::numbers::{
-    fault_number, fault_numbered, first_finding_for_c, first_finding_from_c, format_number,
-    format_numbered, owed_number, owed_numbered, stage_number, stage_numbered,
+    fault_number, fault_numbered, first_finding_for_c, first_finding_from_c, owed_number,
+    owed_numbered, stage_number, stage_numbered,
 };
 use sfi_check::{Feed, SfiFinding, Tally};
+use sfi_formats::Format;
 use sfi_image::{Fields, GateArray, LayoutReader, Span, SpanArray};
 use std::mem::size_of;
 
@@ -79,7 +80,7 @@ fn fields_of(stream: &SfiStream) -> Fields
     ensures { result ≡ fields_of stream.now }
 {
     Fields {
-        format: format_numbered(stream.format),
+        format: Format::numbered(stream.format),
         code_base: stream.code_base,
         code_size: stream.code_size,
         data_base: stream.data_base,
@@ -150,7 +151,7 @@ pub(crate) fn kept(feed: &Feed) -> SfiStream
         next: stage_number(reader.next),
         count: reader.count,
         begun: reader.begun,
-        format: format_number(fields.format),
+        format: fields.format.number(),
         code_base: fields.code_base,
         code_size: fields.code_size,
         data_base: fields.data_base,

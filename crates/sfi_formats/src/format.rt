@@ -1,7 +1,7 @@
 //! The formats of images. For Python, `tools/suygapid/image/layout.py` and
 //! `tools/second_checker.py` have their magics and largest regions, too.
 ghost use Rattle.std.specs.Prelude.{◌≡◌, ◌↔◌, IsTrue, take};
-ghost use Rattle.sfi_formats.specs.Formats.{magic, code_most, data_most, built_code_most, unit, has_stack, has_words, is_stack, has_single_mask};
+ghost use Rattle.sfi_formats.specs.Formats.{magic, format_number, format_numbered, code_most, data_most, built_code_most, unit, has_stack, has_words, is_stack, has_single_mask};
 
 use crate::registers::STACK_POINTER;
 
@@ -33,6 +33,33 @@ impl Format {
             Format::Sfi2 => *b"SFI2",
             Format::Sfiw => *b"SFIW",
             Format::Sfis => *b"SFIS",
+        }
+    }
+
+    /// The number of this format, from 1 on, as C has it: `format` of `struct sfi_part` (`sfi_c`
+    /// include/sfi.h) and of `struct sfi_bounds` (`sfi_slots`).
+    pub fn number(self) -> u32
+        ensures is { result ≡ format_number self }
+        ensures back { format_numbered result ≡ self }
+    {
+        match self {
+            Format::Sfi1 => 1,
+            Format::Sfi2 => 2,
+            Format::Sfiw => 3,
+            Format::Sfis => 4,
+        }
+    }
+
+    /// The format that has this number. A caller in C passes no other, as the headers ask; 0 and all
+    /// above 4 are taken for the fourth, which asks most of others, so that each number has a format.
+    pub fn numbered(number: u32) -> Self
+        ensures { result ≡ format_numbered number }
+    {
+        match number {
+            1 => Format::Sfi1,
+            2 => Format::Sfi2,
+            3 => Format::Sfiw,
+            _ => Format::Sfis,
         }
     }
 

@@ -1,9 +1,7 @@
 -- Slots of a device, each with two versions of a plug-in: what a call makes of them, and what may
 -- be entered.
 use Rattle.std.specs.Prelude.{◌≡◌, ◌≢◌, ◌≤◌, ◌+◌, ◌-◌, ◌%◌, ◌^◌, ◌==◌, ◌&&◌, ◌||◌, nat_lt, nat_le, ◌⊎◌, ℕ, List, Option, Some, None, Bool, slice_get, slice_set, if◌then◌else◌}
-use Rattle.sfi_formats.specs.declared.format.Format.{Format}
-use Rattle.sfi_formats.specs.declared.format.Format.TheVariants.{Sfi1, Sfi2, Sfiw, Sfis}
-use Rattle.sfi_formats.specs.Formats.{unit}
+use Rattle.sfi_formats.specs.Formats.{format_numbered, unit}
 use Rattle.sfi_formats.specs.Limits.{bundle_size}
 use Rattle.sfi_image.specs.declared.span.Span.{Span}
 use Rattle.sfi_image.specs.Spelling.{Holds}
@@ -18,11 +16,6 @@ use Rattle.sfi_slots.specs.declared.slot.SfiSlot.{SfiSlot}
 -- the code region
 abbrev pub code_of : SfiBounds → Span
 code_of b = record { base = b.code_base; size = b.code_size }
-
--- the format of that number; each but 1, 2 and 3 counts as that of the fourth, which asks most of others
-abbrev pub format_numbered : ℕ → Format
-format_numbered number =
-    if number == 1 then Sfi1 else if number == 2 then Sfi2 else if number == 3 then Sfiw else Sfis
 
 -- where it lies, and its image's format
 abbrev pub bounds_of : SfiBounds → Bounds

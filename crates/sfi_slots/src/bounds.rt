@@ -1,6 +1,6 @@
 //! Where the code and data of a version lie, and that those of two lie apart.
 ghost use Rattle.std.specs.Prelude.{◌≡◌, ◌↔◌, IsTrue};
-ghost use Rattle.sfi_slots.specs.Slots.{format_numbered, bounds_of, LieApart};
+ghost use Rattle.sfi_slots.specs.Slots.{bounds_of, LieApart};
 
 use sfi_formats::Format;
 use sfi_image::{Bounds, are_bounds_apart};
@@ -22,25 +22,12 @@ pub struct SfiBounds {
     pub data_size: u32,
 }
 
-/// The format of that number; of 0 and all above 4 the fourth, which asks most of others, so that
-/// each number has a format.
-pub(crate) fn format_numbered(number: u32) -> Format
-    ensures { result ≡ format_numbered number }
-{
-    match number {
-        1 => Format::Sfi1,
-        2 => Format::Sfi2,
-        3 => Format::Sfiw,
-        _ => Format::Sfis,
-    }
-}
-
 /// The same bounds as `sfi_image` has them.
 fn bounds_of(bounds: &SfiBounds) -> Bounds
     ensures { result ≡ bounds_of bounds.now }
 {
     Bounds {
-        format: format_numbered(bounds.format),
+        format: Format::numbered(bounds.format),
         code_base: bounds.code_base,
         code_size: bounds.code_size,
         data_base: bounds.data_base,

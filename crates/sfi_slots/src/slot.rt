@@ -4,8 +4,8 @@ ghost use Rattle.std.specs.Prelude.{◌≡◌, ◌≢◌, ◌<◌, ◌↔◌, Is
 ghost use Rattle.sfi_slots.specs.declared.slot.SfiSlot.{SfiSlot};
 ghost use Rattle.sfi_slots.specs.Slots.{IsApartFrom, IsApartFromSlot, IsApartFromOthers, MayEnter, new_version, unit_of};
 
-use crate::bounds::{SfiBounds, format_numbered, lie_apart};
-use sfi_formats::BUNDLE_SIZE;
+use crate::bounds::{SfiBounds, lie_apart};
+use sfi_formats::{BUNDLE_SIZE, Format};
 
 /// The state of a version that isn't there. It goes through the states in the order of their
 /// numbers, which `enum sfi_slot_state` of include/sfi_slots.h and specs/Slots have, too; from
@@ -158,7 +158,7 @@ fn unit_of(number: u32) -> u32
     ensures positive { 0 < result }
 {
     if number == 3 || number == 4 {
-        format_numbered(number).unit()
+        Format::numbered(number).unit()
     } else {
         BUNDLE_SIZE
     }

@@ -18,4 +18,4 @@ returns c = λ p o h e.
     let is = part_is c.args.view.now p o c.args.end h e in
     let code : c.args.end - f.init_len - f.code_size ≡ o + 28 + 8 * f.gate_count = omega arith in
     let init : c.args.end - f.init_len ≡ o + 28 + 8 * f.gate_count + f.code_size = omega arith in
-    rw (c.format_number.ensures.number, code, init, h.fields_are) refl
+    rw (c.number.ensures.is, code, init, h.fields_are) refl
