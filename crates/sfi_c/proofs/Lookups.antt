@@ -14,7 +14,8 @@ use Rattle.sfi_image.specs.declared.span.Span.{Span}
 use Rattle.sfi_places.specs.Beside.{AreBeside}
 use Rattle.sfi_formats.specs.declared.format.Format.{Format}
 use Rattle.sfi_formats.specs.declared.format.Format.TheVariants.{Sfi1, Sfi2, Sfiw, Sfis}
-use Rattle.sfi_formats.specs.Formats.{format_number, format_numbered, has_single_mask}
+use Rattle.sfi_formats.specs.Formats.{has_single_mask}
+use Rattle.sfi_formats.specs.Numbers.{format_number, format_numbered}
 use Rattle.sfi_c.specs.Moves.{told_bounds, AreToldApart}
 use Rattle.sfi_image.specs.Bounds.{IsClearOf}
 use Rattle.std.specs.Prelude.{slice_get}

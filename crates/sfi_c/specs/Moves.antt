@@ -2,7 +2,7 @@
 use Rattle.sfi_image.specs.declared.bounds.Bounds.{Bounds}
 use Rattle.sfi_image.specs.Bounds.{AreBoundsApart}
 use Rattle.sfi_c.specs.declared.part.SfiPart.{SfiPart}
-use Rattle.sfi_formats.specs.Formats.{format_numbered}
+use Rattle.sfi_formats.specs.Numbers.{format_numbered}
 use Rattle.std.specs.Prelude.{ℕ}
 use Rattle.sfi_formats.specs.declared.place.Place.{Place}
 use Rattle.sfi_c.specs.declared.moving.MoveAnswer.{MoveAnswer}

@@ -3,7 +3,7 @@ use Rattle.std.specs.Prelude.{List, ◌++◌, length, map, take, drop, ◌≡◌
 use Rattle.sfi_rules.specs.declared.finding.Finding.{Finding}
 use Rattle.sfi_check.specs.declared.for_c.SfiFinding.{SfiFinding}
 use Rattle.sfi_check.specs.ForC.{finding_for_c}
-use Rattle.sfi_formats.specs.Formats.{format_number}
+use Rattle.sfi_formats.specs.Numbers.{format_number}
 use Rattle.sfi_image.specs.declared.part.Gate.{Gate}
 use Rattle.sfi_image.specs.Spelling.{Part}
 use Rattle.sfi_image.specs.Numbers.{fields_bytes, gate_bytes}

@@ -2,7 +2,7 @@
 use Rattle.std.specs.Prelude.{◌==◌, ◌/◌, ◌%◌, ℕ, List, [], ◌∷◌, cond, take, Option, ◌≡◌, ◌≢◌, ◌⊎◌, ◌++◌, length}
 use Rattle.std.specs.List.{find}
 use Rattle.std.specs.Option.{option_map}
-use Rattle.sfi_formats.specs.Formats.{format_numbered}
+use Rattle.sfi_formats.specs.Numbers.{format_numbered}
 use Rattle.sfi_image.specs.declared.fields.Fields.{Fields}
 use Rattle.sfi_image.specs.declared.want.Stage.{Stage}
 use Rattle.sfi_image.specs.declared.want.Stage.TheVariants as stage

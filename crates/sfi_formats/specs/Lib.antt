@@ -1,4 +1,5 @@
 pub mod Limits
+pub mod Numbers
 pub mod Formats
 pub mod Places
 pub mod Laws

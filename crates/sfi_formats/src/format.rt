@@ -1,7 +1,8 @@
 //! The formats of images. For Python, `tools/suygapid/image/layout.py` and
 //! `tools/second_checker.py` have their magics and largest regions, too.
 ghost use Rattle.std.specs.Prelude.{◌≡◌, ◌↔◌, IsTrue, take};
-ghost use Rattle.sfi_formats.specs.Formats.{magic, format_number, format_numbered, code_most, data_most, built_code_most, unit, has_stack, has_words, is_stack, has_single_mask};
+ghost use Rattle.sfi_formats.specs.Numbers.{format_number, format_numbered};
+ghost use Rattle.sfi_formats.specs.Formats.{magic, code_most, data_most, built_code_most, unit, has_stack, has_words, is_stack, has_single_mask};
 
 use crate::registers::STACK_POINTER;
 

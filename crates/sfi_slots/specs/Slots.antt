@@ -1,7 +1,8 @@
 -- Slots of a device, each with two versions of a plug-in: what a call makes of them, and what may
 -- be entered.
 use Rattle.std.specs.Prelude.{◌≡◌, ◌≢◌, ◌≤◌, ◌+◌, ◌-◌, ◌%◌, ◌^◌, ◌==◌, ◌&&◌, ◌||◌, nat_lt, nat_le, ◌⊎◌, ℕ, List, Option, Some, None, Bool, slice_get, slice_set, if◌then◌else◌}
-use Rattle.sfi_formats.specs.Formats.{format_numbered, unit}
+use Rattle.sfi_formats.specs.Formats.{unit}
+use Rattle.sfi_formats.specs.Numbers.{format_numbered}
 use Rattle.sfi_formats.specs.Limits.{bundle_size}
 use Rattle.sfi_image.specs.declared.span.Span.{Span}
 use Rattle.sfi_image.specs.Spelling.{Holds}
