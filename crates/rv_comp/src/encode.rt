@@ -76,8 +76,9 @@ fn filled(_form: &Form16, row: usize, rd: Reg, rs1: Reg, rs2: Reg, imm: i32) -> 
     FormFields::new(rd, rs1, rs2, imm).halfword(&ROWS[row])
 }
 
-/// The halfword that the bits of the form's row make. Each row is named where its form is, so that
-/// the compiler puts its bits in their places by shifts.
+/// The halfword that the bits of the form's row make. It tests no field; [`encode16`] does that first.
+/// Each arm's literal row number is the form's `place` in specs/Table and its index in `ROWS`, so that
+/// the compiler puts the row's bits in their places by shifts.
 fn halfword_of(form: &Form16) -> u16
     ensures { result ≡ halfword_of form.now }
 {

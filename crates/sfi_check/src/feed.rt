@@ -124,10 +124,10 @@ impl Feed {
         }
     }
 
-    /// Takes the bytes that come next, any number of them, and hands the findings in what is whole
-    /// with them to the sink. Where bytes are held, they come first, with as many as make what comes
-    /// next whole. After a fault nothing changes. `BLOCKS` says how code is scanned: `IN_BLOCKS` or
-    /// `BUNDLE_BY_BUNDLE` of `sfi_scan`.
+    /// Takes the bytes that come next, any number of them. Bytes that were held are completed first, with
+    /// as many of `bytes` as the field or bundle lacks; then all whole fields and bundles are taken, and
+    /// their findings go to `sink`; the incomplete rest is held. After a fault nothing changes. `BLOCKS`
+    /// says how code is scanned: `IN_BLOCKS` or `BUNDLE_BY_BUNDLE` of `sfi_scan`.
     pub(crate) fn feed_into<F: FindingSink, const BLOCKS: bool>(
         &mut self,
         bytes: &[u8],

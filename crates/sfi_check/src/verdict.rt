@@ -79,7 +79,9 @@ pub(crate) fn findings_as(
 /// Accepts the bytes, or says why not.
 ///
 /// The verdict rests on the bytes alone. Want of memory is the one answer that the bytes don't
-/// determine.
+/// determine. It reads the whole image and lists all findings, without a [`Feed`](crate::Feed), by which
+/// [`judge`], [`check_into`] and [`check_stream`](crate::check_stream) judge. That both say the same are
+/// laws (specs/OneVerdict).
 pub fn check<'a>(alloc: Global, bytes: &'a [u8]) -> Result<Accepted<'a>, Refusal>
     // What each answer means.
     ensures layout { IfErr result (IfLayoutFault (IsFault bytes.entry.now)) }

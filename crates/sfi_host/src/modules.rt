@@ -129,8 +129,8 @@ impl Module {
 
     /// A world of the image, before any turn: what [`World::load`] makes of the image itself, with
     /// nothing checked or decoded anew. Its memory is its own; so nothing that its sandboxes do
-    /// changes the module, or another world of it. If memory runs out there is none, and the memory
-    /// handed in is given up.
+    /// changes the module, or another world of it. `memory` is to be empty. An error means that the host's
+    /// memory ran out; `memory` is dropped then.
     pub fn instance<M: Memory>(&self, alloc: Global, memory: M) -> Result<World<M>, AllocError>
         requires { M.bytes memory ≡ empty }
         ensures seats { IfOk result (λ w. w.seats ≡ map first_seat self.now) }

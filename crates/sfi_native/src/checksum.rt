@@ -1,4 +1,5 @@
-//! The checksum of a file.
+//! The two checksums in a file of native code: of the image that it belongs to, and of the file itself
+//! (specs/File.antt).
 ghost use Rattle.std.specs.Prelude.{◌≡◌};
 ghost use Rattle.sfi_native.specs.Checksum.{after_byte as after_byte_of, crc32 as crc32_of, next_remainder as next_of};
 

@@ -12,7 +12,8 @@ const OWED_END: u8 = 63;
 /// Instead of a number: none is known yet.
 const NONE: u8 = 255;
 
-/// A number for each two bytes of a sandbox's code, at which an instruction may begin.
+/// A number of owed steps, or `NONE`, for each two bytes of a sandbox's code, at which an instruction may
+/// begin. `Plan::owed` and `half_word` of specs/Registers take the same index as `place`.
 #[derive(Drop)]
 struct HalfWords {
     code_base: u32,

@@ -28,7 +28,8 @@ pub struct Plan {
 }
 
 /// Whether register `r` keeps one value in code of that format, so that no line writes it: x0 and the
-/// reserved registers. They lie in the frame.
+/// reserved registers. They lie in the frame. `SFI_FIXED` of include/sfi_native_code.h has the same, x26
+/// apart, which is fixed only where masks have two steps.
 pub(crate) fn is_fixed(format: Format, r: Reg) -> bool
     ensures { result ≡ is_fixed_register format r }
 {
@@ -36,7 +37,8 @@ pub(crate) fn is_fixed(format: Format, r: Reg) -> bool
 }
 
 /// Whether code has no other use for a register of the processor, so that one of the sandbox's may
-/// lie in it. `ASSIGNABLE` of uses.rt has the same ten.
+/// lie in it. `ASSIGNABLE` of uses.rt, and `SFI_ASSIGNABLE` and `SFI_PLACED` of
+/// include/sfi_native_code.h, have the same ten.
 fn is_assignable(q: Register) -> bool
     ensures { result ≡ is_assignable_register q }
 {
@@ -141,7 +143,10 @@ impl Plan {
         is_assignable(q) && !is_fixed(self.format, Reg::numbered(n as u8)) && !self.has_before(n, q)
     }
 
-    /// Whether code may have the plan: registers that no line writes lie in the frame, and no two lie in one register.
+    /// Whether code can be made by this plan: each of the sandbox's registers lies in the frame or in one of
+    /// the ten registers of `is_assignable`, none that no line writes (`is_fixed`) lies in one, and no two
+    /// lie in the same. Any `owed` and `padding` will do. `sfi_hold_registers` of
+    /// include/sfi_native_code.h tests the same of a file.
     pub fn is_right(&self) -> bool
         ensures { IsTrue result ↔ IsRightPlan self.now }
     {

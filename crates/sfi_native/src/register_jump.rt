@@ -52,11 +52,12 @@ fn with_eax(op: AluOp, src: Operand) -> Instr
     }
 }
 
-/// Writes a jump out where fewer than 65 steps are left (`most` of specs/Machine.antt in
-/// sfi_translate), and none are owed. `distance` is from the indirect jump's end to the way out; 44
-/// is how many bytes are up to there.
+/// Writes the test that 65 steps are left (`most` of specs/Machine.antt in sfi_translate), and none
+/// owed, with a jump to the way out where fewer are. `distance` is from the end of the whole indirect
+/// jump to the way out; between this jump and that end are 44 bytes (`start_size` and `enter_size` of
+/// specs/Code).
 #[tactic(auto, using(crate::proofs::Lists::two_parts))]
-fn put_steps(out: &mut Vec<u8>, distance: u32) -> Result<(), AllocError>
+fn put_steps_test(out: &mut Vec<u8>, distance: u32) -> Result<(), AllocError>
     ensures { OnOk result (out.new.items ≡ out.old.items ++ spellings (steps_code distance)) }
 {
     put(
@@ -77,11 +78,14 @@ fn put_steps(out: &mut Vec<u8>, distance: u32) -> Result<(), AllocError>
     )
 }
 
-/// Writes a jump out where no unit of the sandbox's code starts at the address in edx: the mask of
-/// x25 and the base of x24 make another address of it. `distance` is from the indirect jump's end to
-/// the way out; 26 is how many bytes are up to there.
+/// Writes the test that a unit of the sandbox's code starts at the address in edx, with a jump to the
+/// way out where none does: there the mask of x25 and the base of x24 make another address of it.
+/// `distance` is from the end of the whole indirect jump to the way out; between this jump and that end
+/// are the 26 bytes of `put_enter` (`enter_size` of specs/Code). These 18 bytes (`start_size`) count in
+/// the 44 of `put_steps_test`, the 54 of head.rt and line.rt, and the 68 of head.rt, compilation.rt,
+/// entries.rt and file.rt.
 #[tactic(auto, using(crate::proofs::Lists::start_parts))]
-fn put_start(out: &mut Vec<u8>, distance: u32) -> Result<(), AllocError>
+fn put_start_test(out: &mut Vec<u8>, distance: u32) -> Result<(), AllocError>
     ensures { OnOk result (out.new.items ≡ out.old.items ++ spellings (start_code distance)) }
 {
     put(
@@ -184,8 +188,8 @@ fn put_enter(out: &mut Vec<u8>) -> Result<(), AllocError>
 pub(crate) fn put_indirect_jump(out: &mut Vec<u8>, distance: u32) -> Result<(), AllocError>
     ensures { OnOk result (out.new.items ≡ out.old.items ++ spellings (indirect_jump distance)) }
 {
-    put_steps(out, distance)?;
-    put_start(out, distance)?;
+    put_steps_test(out, distance)?;
+    put_start_test(out, distance)?;
     put_enter(out)
 }
 

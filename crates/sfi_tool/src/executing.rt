@@ -3,6 +3,10 @@
 //! `budget` is how many steps each sandbox may do in all. `buffer` has 65536 bytes (`BUFFER`), room
 //! for what one call hands over. `reader` and `writer` are the sandboxes' input and output;
 //! `console` answers all services but put and get.
+//!
+//! On Linux on x86-64 `sfi exec` may run an image of one sandbox by native code instead:
+//! `sfi_run_serve_watched` of sfi_run_serve.h (in `sfi_run`) and tools/suygapid/native/exec.c have to end
+//! a run alike, also that a reply is a step. tools/test_exec.py compares both.
 
 ghost use Rattle.std.specs.Prelude.{◌≡◌, ◌≢◌, ◌≤◌, ℕ, List, Option, None, IfErr, IfOk, IfSome, length, slice_get};
 ghost use Rattle.sfi_host.specs.Consoles.{ConsoleState};
@@ -37,7 +41,8 @@ fn steps_left<M: Memory>(world: &World<M>, sandbox: u32, budget: u64) -> u64
     left_by(budget, status, steps)
 }
 
-/// How many steps a turn has at most. What was put is written after one without a call.
+/// How many steps a turn has at most. What was put is written after one without a call. `STEPS_BETWEEN` of
+/// exec.c, the help of `exec` (`sfi_command` src/commands/exec.rt) and docs/sfi.1 have this number, too.
 const MOST_STEPS: u64 = 10_000_000;
 
 /// How many steps the next turn may do, if `left` are left.

@@ -1,5 +1,5 @@
 //! What an instruction does, as `effect` of specs/Step.antt says. A method that stops (`Err`) leaves
-//! all as it was.
+//! all as it was. `x86_trial` and fuzz/processor.py try it beside a real processor.
 ghost use Rattle.std.specs.Prelude.{◌≡◌, IfErr, Ok};
 ghost use Rattle.x86_instr.specs.declared.instr.Instr.TheVariants.{Test, ShiftCl, Setcc};
 ghost use Rattle.x86_step.specs.Held.{Comes, Leaves, core_of};
@@ -199,7 +199,8 @@ impl Core {
     }
 }
 
-/// The address that lies `distance`, 32 bits in two's complement, from `after`, modulo 2^64.
+/// The address that lies `distance`, 32 bits in two's complement, from `after`, the instruction's end,
+/// modulo 2^64.
 fn jumped(after: u64, distance: u32) -> u64
     ensures { result ≡ jump_target after distance }
 {

@@ -89,7 +89,8 @@ pub(super) fn stack_address(h: u16) -> u16
     bits(h, 12, 11) << 4 | bits(h, 10, 7) << 6 | bits(h, 6, 6) << 2 | bits(h, 5, 5) << 3
 }
 
-/// The ten bits of the immediate of C.ADDI16SP, which the caller reads as a signed number.
+/// The ten bits of the immediate of C.ADDI16SP, which the caller reads as a signed number: a multiple of
+/// 16 in bytes; 0 belongs to no instruction (`decode_upper` gives `None`).
 #[tactic(auto, unfolding(crate::specs::mirror::stack_step))]
 pub(super) fn stack_step(h: u16) -> u16
     ensures { result ≡ stack_step h }
