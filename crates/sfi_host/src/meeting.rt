@@ -50,7 +50,7 @@ fn code_of(part: &ModulePart) -> Span
 }
 
 /// Whether an address of the span lies in the zone at zero of a sandbox whose data have `size` bytes.
-fn lies_in_zone(size: u32, span: Span) -> bool
+fn overlaps_zone(size: u32, span: Span) -> bool
     requires end { span.base + span.size < 2 ^ 64 }
     ensures { IsTrue result ↔ ((a : ℕ) × Holds span a × InZoneAtZero size a) }
 {
@@ -77,10 +77,10 @@ fn reach_zone(code: Span, guarded: Span, size: u32) -> bool
     ensures { IsTrue result
         ↔ ((a : ℕ) × (Holds code a ⊎ Holds guarded a) × InZoneAtZero size a) }
 {
-    if lies_in_zone(size, code) {
+    if overlaps_zone(size, code) {
         return true;
     }
-    lies_in_zone(size, guarded)
+    overlaps_zone(size, guarded)
 }
 
 /// Whether the sandbox takes up an address in the part's zone at zero; `false` where the part's

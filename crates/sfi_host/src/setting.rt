@@ -160,7 +160,7 @@ impl Sandbox {
 
     /// Whether the typed registers of code in words hold what their types say.
     #[tactic(auto, using(crate::proofs::FromOutside::all_near, crate::proofs::FromOutside::typed_near))]
-    fn holds_typed_words(&self, cpu: &Cpu) -> bool
+    fn holds_typed_if_words(&self, cpu: &Cpu) -> bool
         ensures { IsTrue result
             ↔ AreWordsTyped self.now.format (span_of self.now.code) (span_of self.now.data) cpu.now.registers }
     {
@@ -192,7 +192,7 @@ impl Sandbox {
         if !self.format.has_words() {
             return true;
         }
-        self.holds_typed_words(cpu)
+        self.holds_typed_if_words(cpu)
     }
 
     /// Whether the sandbox may be entered with this pc and these registers.

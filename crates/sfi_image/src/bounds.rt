@@ -48,7 +48,7 @@ fn guarded_data_of(bounds: &Bounds) -> Span
 
 /// Whether the two spans have no address in common. Either may be empty, unlike those of
 /// `are_apart` of `span.rt`.
-fn do_not_meet(one: Span, other: Span) -> bool
+fn are_apart_or_empty(one: Span, other: Span) -> bool
     requires one { one.base + one.size < 2 ^ 64 }
     requires other { other.base + other.size < 2 ^ 64 }
     ensures { IsTrue result ↔ AreApart one other }
@@ -65,16 +65,16 @@ fn are_regions_apart(one: &Bounds, other: &Bounds) -> bool
     let guarded = guarded_data_of(one);
     let other_code = code_of(other);
     let other_guarded = guarded_data_of(other);
-    if !do_not_meet(code, other_code) {
+    if !are_apart_or_empty(code, other_code) {
         return false;
     }
-    if !do_not_meet(code, other_guarded) {
+    if !are_apart_or_empty(code, other_guarded) {
         return false;
     }
-    if !do_not_meet(guarded, other_code) {
+    if !are_apart_or_empty(guarded, other_code) {
         return false;
     }
-    do_not_meet(guarded, other_guarded)
+    are_apart_or_empty(guarded, other_guarded)
 }
 
 /// Whether the span lies clear of the sandbox's zone at zero; true where its format has none.

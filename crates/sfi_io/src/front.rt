@@ -46,7 +46,7 @@ fn after_pairs(text: &[u8], pairs: usize) -> usize
 /// Decodes the pairs of digits with which a text's first 64 bytes begin, and takes a byte of white
 /// space after them. `made` is 0 where they don't begin with a pair.
 #[inline(always)]
-fn decode_line(text: &[u8], out: &mut [u8]) -> Blocks
+fn decode_one_block(text: &[u8], out: &mut [u8]) -> Blocks
     requires text { 64 < length text.now }
     requires out { 32 ≤ length out.old }
     ensures taken { result.taken ≤ length text.now }
@@ -73,7 +73,7 @@ fn decode_line(text: &[u8], out: &mut [u8]) -> Blocks
 /// Decodes block by block, until a block gives fewer than 8 bytes, or text or room is too short for
 /// another. A text is mostly one line after another, each of which is a block.
 #[inline(always)]
-fn decode_lines(text: &[u8], out: &mut [u8]) -> Blocks
+fn decode_blocks(text: &[u8], out: &mut [u8]) -> Blocks
     ensures taken { result.taken ≤ length text.now }
     ensures made { result.made ≤ result.taken }
     ensures room { result.made ≤ length out.new }
@@ -88,7 +88,7 @@ fn decode_lines(text: &[u8], out: &mut [u8]) -> Blocks
     let mut taken: usize = 0;
     let mut made: usize = 0;
     while taken < last && made < full {
-        let line = decode_line(&text[taken..], &mut out[made..]);
+        let line = decode_one_block(&text[taken..], &mut out[made..]);
         if line.made < 8 {
             return Blocks {
                 taken: taken + line.taken,
@@ -118,7 +118,7 @@ fn decode_first(text: &[u8], out: &mut [u8], quick: bool) -> DecodeProgress
         (take result.made out.new) }
 {
     if quick {
-        let blocks = decode_lines(text, out);
+        let blocks = decode_blocks(text, out);
         if blocks.taken > 0 {
             return DecodeProgress {
                 taken: blocks.taken,

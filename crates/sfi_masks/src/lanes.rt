@@ -104,7 +104,7 @@ pub(crate) fn rest_classes(stack: bool, low: u8x16, high: u8x16) -> u8x16
 /// The classes that count for each halfword: where x2 is a `stack` pointer and bits 11:7 name it,
 /// only those that don't write that register, and else all.
 #[inline(always)]
-pub(crate) fn kept_classes(stack: bool, low: u8x16, high: u8x16) -> u8x16
+pub(crate) fn writable_classes(stack: bool, low: u8x16, high: u8x16) -> u8x16
     ensures { HasLanes result (λ i. kept stack (slice_index low i) (slice_index high i)) }
 {
     if !stack {

@@ -4,8 +4,8 @@ ghost use Rattle.sfi_masks.specs.Masks.{AreMasks, AreMasksInWords, AreSingleMask
 ghost use Rattle.sfi_masks.specs.private.{AreSingleMasksSeen, AreSeen, bundles, words, of_four};
 
 use crate::lanes::{
-    bits_of, classes_of_halfwords, followed_classes, free_in_words, kept_classes, kept_in_words,
-    long_bits, low_and_high, mask_classes, rest_classes,
+    bits_of, classes_of_halfwords, followed_classes, free_in_words, kept_in_words, long_bits,
+    low_and_high, mask_classes, rest_classes, writable_classes,
 };
 use crate::tables::{ACCESSES, ALONE, FREE};
 use std::simd::prelude::*;
@@ -39,7 +39,7 @@ fn masks_of_quarter(stack: bool, bytes: &[u8]) -> Masks
     let alone = classes_of_halfwords(ALONE, low, high);
     let followed = followed_classes(low, high);
     let rest = rest_classes(stack, low, high);
-    let kept = kept_classes(stack, low, high);
+    let kept = writable_classes(stack, low, high);
     Masks {
         long: long_bits(low),
         free: bits_of((alone | rest | followed & u8x16::splat(FREE)) & kept),

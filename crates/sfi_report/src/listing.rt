@@ -36,7 +36,7 @@ pub(crate) fn push_instruction(
 
 /// Writes the line `ADDRESS .bytes HEX` of the last bytes of a unit, from which no instruction can
 /// be read. Each byte has its two digits, in the order of the code.
-fn push_rest(out: &mut String, address: u32, bytes: &[u8]) -> Result<(), AllocError>
+fn push_unread_bytes(out: &mut String, address: u32, bytes: &[u8]) -> Result<(), AllocError>
     requires { 0 < length bytes.now }
     ensures { OnOk result
         (string_bytes out.new ≡ string_bytes out.old ++ rest_line address bytes.now) }
@@ -66,7 +66,7 @@ fn list_unit(out: &mut String, address: u32, bytes: &[u8]) -> Result<(), AllocEr
                 push_instruction(out, here, &rest[..size], &instr)?;
                 at += size;
             }
-            Front::Short | Front::Bad => return push_rest(out, here, rest),
+            Front::Short | Front::Bad => return push_unread_bytes(out, here, rest),
         }
     }
     Ok(())

@@ -104,14 +104,14 @@ impl Rule {
             Rule::V7 => "target",
             Rule::V8 => "end",
             Rule::V9 => "gate",
-            Rule::V10 => Self::name_of_typed(format),
+            Rule::V10 => Self::name_of_v10(format),
             Rule::V11 => "code",
             Rule::V12 => "offset",
         }
     }
 
     /// The name of V10: in words it is about data registers, else about the stack pointer.
-    fn name_of_typed(format: Format) -> &'static str
+    fn name_of_v10(format: Format) -> &'static str
         ensures { result.now ≡ rule_name format V10 }
     {
         if format.has_words() { "data" } else { "stack" }

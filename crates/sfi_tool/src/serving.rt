@@ -33,7 +33,7 @@ pub enum Interruption {
 /// Copies the a1 data bytes of a caller from its a0 on to the front of the buffer: what a put hands
 /// over. `false` where these are more than 65536 or not all in its data, and then the call is to be
 /// refused. A get is tested by it, too, and drops the bytes.
-fn take_handed<M: Memory>(world: &World<M>, request: Request, buffer: &mut [u8]) -> bool
+fn copy_handed<M: Memory>(world: &World<M>, request: Request, buffer: &mut [u8]) -> bool
     requires { length buffer.old ≡ 65536 }
     ensures few { OnTrue result (request.a1 ≤ 65536) }
     ensures handed { OnTrue result
@@ -100,7 +100,7 @@ fn serve_put<M: Memory, W: Write>(
     ensures cut { (c : ConsoleState) → IfErr result (λ e. IsCut request.sandbox
         (slots_of world.old) c (W.contents writer.old) (W.contents writer.new)) }
 {
-    if !take_handed(world, request, buffer) {
+    if !copy_handed(world, request, buffer) {
         return reply_with(world, request, FAILED);
     }
     if !write_out(writer, &buffer[..request.a1 as usize]) {
@@ -157,7 +157,7 @@ fn serve_get<M: Memory, R: Read, W: Write>(
     ensures cut { (c : ConsoleState) → IfErr result (λ e. IsCut request.sandbox
         (slots_of world.old) c (W.contents writer.old) (W.contents writer.new)) }
 {
-    if !take_handed(world, request, buffer) {
+    if !copy_handed(world, request, buffer) {
         return reply_with(world, request, FAILED);
     }
     let count = read_piece(&mut buffer[..request.a1 as usize], reader, writer)?;

@@ -53,7 +53,7 @@ pub(crate) fn push_register_field(out: &mut String, register: Reg) -> Result<(),
 
 /// Appends a comma and a number that may be negative, in decimal.
 #[tactic(auto, unfolding(crate::specs::Translation::signed_field))]
-pub(crate) fn push_signed(out: &mut String, number: i32) -> Result<(), AllocError>
+pub(crate) fn push_signed_field(out: &mut String, number: i32) -> Result<(), AllocError>
     ensures { OnOk result (string_bytes out.new ≡ string_bytes out.old ++ signed_field number) }
 {
     write!(out, ",{number}")

@@ -5,7 +5,7 @@ ghost use Rattle.sfi_translate.specs.Translation.{opening, name_field, number_fi
 
 use crate::fields::{
     push_address_field, push_closing, push_name_field, push_number_field, push_opening,
-    push_register_field, push_signed,
+    push_register_field, push_signed_field,
 };
 use rv_word::{Instr, Reg};
 use sfi_text::{branch_name, immediate_name, load_name, op_name, store_name};
@@ -37,7 +37,7 @@ fn push_immediate_line(
 {
     push_name_field(out, name)?;
     push_two_registers(out, first, second)?;
-    push_signed(out, number)?;
+    push_signed_field(out, number)?;
     push_closing(out)
 }
 
@@ -163,7 +163,7 @@ pub(crate) fn push_instruction_line(
         Instr::Jalr { rd, rs1, imm } => {
             push_opening(out, "JALR", at, size)?;
             push_two_registers(out, rd, rs1)?;
-            push_signed(out, imm)?;
+            push_signed_field(out, imm)?;
             push_closing(out)
         }
         Instr::Lui { rd, imm } => push_upper_line(out, "LUI", at, size, rd, imm),

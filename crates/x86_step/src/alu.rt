@@ -134,7 +134,7 @@ pub(crate) fn unary(op: UnaryOp, a: u64) -> Computed
 }
 
 /// Whether the signed product doesn't fit the width: the carry and the overflow flag of imul.
-fn is_lost(width: Width, a: u64, b: u64) -> bool
+fn product_overflows(width: Width, a: u64, b: u64) -> bool
     requires a { a ≡ low width a }
     requires b { b ≡ low width b }
     ensures { result ≡ not (fits width (signed width a *ℤ signed width b)) }
@@ -154,7 +154,7 @@ pub(crate) fn product(width: Width, a: u64, b: u64) -> Computed
     requires b { b ≡ low width b }
     ensures { result ≡ product_of width a b }
 {
-    let lost = is_lost(width, a, b);
+    let lost = product_overflows(width, a, b);
     Computed {
         result: low(width, a.wrapping_mul(b)),
         flags: Flags {

@@ -19,7 +19,7 @@ ghost use Rattle.sfi_scan.specs.private.Words.{IsToldFree, IsQuietWord, IsSteppe
 use crate::block::{EVEN, bits_without, bundle_at};
 use crate::clean::word_at;
 use crate::findings::BundleFindings;
-use crate::words::look::is_clean_other_word;
+use crate::words::look::is_clean_jump_word;
 use crate::words::word::scan_word;
 use rv_word::{Reg, access32};
 use sfi_formats::Format;
@@ -219,7 +219,7 @@ fn used_steps(place: &BundlePlace, block: &[u8; BLOCK_BYTES], free: u64, words: 
 /// Whether the word at halfword `i` is a jump or branch that breaks no rule, where nothing is owed
 /// before it.
 #[inline(always)]
-fn is_clean_other_at(place: &BundlePlace, block: &[u8; BLOCK_BYTES], i: usize) -> bool
+fn is_clean_jump_at(place: &BundlePlace, block: &[u8; BLOCK_BYTES], i: usize) -> bool
     requires within { IsWithinBlock place.now }
     requires word { i % 2 ≡ 0 }
     requires inside { i < 64 }
@@ -227,13 +227,13 @@ fn is_clean_other_at(place: &BundlePlace, block: &[u8; BLOCK_BYTES], i: usize) -
 {
     let bundle = bundle_at(place, i / 8);
     let address = place.address + 2 * i as u32;
-    is_clean_other_word(&bundle, address, word_at(block, 2 * i))
+    is_clean_jump_word(&bundle, address, word_at(block, 2 * i))
 }
 
 /// The bits of `words` that are jumps or branches which break no rule, where nothing is owed before
 /// them.
 #[inline(always)]
-fn clean_others(place: &BundlePlace, block: &[u8; BLOCK_BYTES], words: u64) -> u64
+fn clean_jumps(place: &BundlePlace, block: &[u8; BLOCK_BYTES], words: u64) -> u64
     requires within { IsWithinBlock place.now }
     requires words { (i : ℕ) → i < 64 → is_in words i ≡ true → i % 2 ≡ 0 }
     ensures { (i : ℕ) → is_in result i ≡ true → IsCleanWord place.now block.now i Nothing Nothing }
@@ -242,7 +242,7 @@ fn clean_others(place: &BundlePlace, block: &[u8; BLOCK_BYTES], words: u64) -> u
     let mut rest = words;
     while rest != 0 {
         let i = rest.trailing_zeros() as usize;
-        if is_clean_other_at(place, block, i) {
+        if is_clean_jump_at(place, block, i) {
             plain |= 1 << i;
         }
         rest &= rest - 1;
@@ -266,7 +266,7 @@ fn doubtful_words(place: &BundlePlace, block: &[u8; BLOCK_BYTES], words: u64, fr
     let pairs = pairs_in(place.format, block, words);
     let others = bits_without(words, pairs | pairs << 2);
     let rest = bits_without(others, used_steps(place, block, free, others));
-    bits_without(rest, clean_others(place, block, rest))
+    bits_without(rest, clean_jumps(place, block, rest))
 }
 
 /// What is owed after the word at halfword `i`, if it breaks no rule with `owed` before it; `None`

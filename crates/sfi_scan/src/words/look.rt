@@ -162,7 +162,7 @@ fn after_typed(format: Format, word: u32) -> Option<Owed>
 /// What is owed after a word that computes into a reserved or typed register, where nothing is owed
 /// before it. Not inlined, as most words compute into another.
 #[inline(never)]
-fn after_kept(format: Format, word: u32) -> Option<Owed>
+fn after_reserved_or_typed(format: Format, word: u32) -> Option<Owed>
     requires { IsWordThat word (Computes (bits word 11 7)) }
     ensures { (b : BundlePlace) (at : ℕ) → b.format ≡ format → IsBeforeEnd b at 4 →
         IfSome result (IsQuietThere b at Nothing word) }
@@ -202,7 +202,7 @@ fn is_known_clean_alone(place: &BundlePlace, address: u32, outline: Option<Outli
 /// is owed before it. Each opcode has a call of its own, so that the compiler drops outlines that
 /// it cannot have.
 #[inline(always)]
-pub(crate) fn is_clean_other_word(place: &BundlePlace, address: u32, word: u32) -> bool
+pub(crate) fn is_clean_jump_word(place: &BundlePlace, address: u32, word: u32) -> bool
     requires within { IsWithin place.now }
     requires before_end { IsBeforeEnd place.now address 4 }
     ensures { OnTrue result (IsQuietThere place.now address Nothing word Nothing) }
@@ -263,7 +263,7 @@ fn after_nothing(place: &BundlePlace, address: u32, word: u32) -> Option<Owed>
 {
     if computes32(word) {
         if is_reserved_or_typed(rd_of(word)) {
-            return after_kept(place.format, word);
+            return after_reserved_or_typed(place.format, word);
         }
         return Some(Owed::Nothing);
     }

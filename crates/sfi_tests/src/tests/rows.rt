@@ -294,7 +294,7 @@ fn single_rows(rt: HostRuntime) -> Result<(), Fail> {
 
 /// Words of command lines: those that are refused, and places of `--at`.
 #[test]
-fn word_rows(rt: HostRuntime) -> Result<(), Fail> {
+fn command_line_rows(rt: HostRuntime) -> Result<(), Fail> {
     try_rows(&rt, rt.alloc(), words::USAGE)?;
     try_rows(&rt, rt.alloc(), words::ALLOWED)?;
     try_rows(&rt, rt.alloc(), words::REFUSED)
@@ -309,7 +309,7 @@ fn help_rows(rt: HostRuntime) -> Result<(), Fail> {
 
 /// Images built of texts, digit for digit, and the faults of texts that aren't built.
 #[test]
-fn text_rows(rt: HostRuntime) -> Result<(), Fail> {
+fn build_rows(rt: HostRuntime) -> Result<(), Fail> {
     try_rows(&rt, rt.alloc(), builds::BUILDS)?;
     try_rows(&rt, rt.alloc(), builds::REFUSED)?;
     try_rows(&rt, rt.alloc(), builds::DIRECTIVES)
@@ -372,6 +372,6 @@ fn too_long_texts(rt: HostRuntime) -> Result<(), Fail> {
 
 /// Puts and gets at their limits, and one byte beyond.
 #[test]
-fn bytes_at_a_time(rt: HostRuntime) -> Result<(), Fail> {
+fn put_and_get_limits(rt: HostRuntime) -> Result<(), Fail> {
     try_rows(&rt, rt.alloc(), runs::BYTES)
 }

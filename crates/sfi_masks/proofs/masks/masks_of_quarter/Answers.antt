@@ -8,8 +8,8 @@ returns c =
     let byte = λ (k : ℕ). slice_index c.args.bytes.now k in
     let lows = c.low_and_high.ensures.low in
     let highs = c.low_and_high.ensures.high in
-    let free = free_lanes (bundles c.args.stack) byte _ _ lows highs _ _ _ _ _ c.classes_of_halfwords-alone.ensures c.followed_classes-followed.ensures c.rest_classes-rest.ensures c.kept_classes-kept.ensures (splat 63) in
-    let access = access_lanes (bundles c.args.stack) byte _ _ lows highs _ _ _ _ _ c.classes_of_halfwords-alone.ensures c.followed_classes-followed.ensures c.rest_classes-rest.ensures c.kept_classes-kept.ensures (splat 63) in
+    let free = free_lanes (bundles c.args.stack) byte _ _ lows highs _ _ _ _ _ c.classes_of_halfwords-alone.ensures c.followed_classes-followed.ensures c.rest_classes-rest.ensures c.writable_classes-kept.ensures (splat 63) in
+    let access = access_lanes (bundles c.args.stack) byte _ _ lows highs _ _ _ _ _ c.classes_of_halfwords-alone.ensures c.followed_classes-followed.ensures c.rest_classes-rest.ensures c.writable_classes-kept.ensures (splat 63) in
     record {
       long_small = c.long_bits.ensures.small;
       free_small = c.bits_of.ensures.small;

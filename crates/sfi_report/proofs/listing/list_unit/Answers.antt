@@ -21,9 +21,9 @@ returns-in-Short c =
     let at = c.loop-at.at in
     let rest = take (length c.args.bytes.now - at) (drop at c.args.bytes.now) in
     let stuck = stuck_lines (c.args.address + at) rest (λ i n s. let read = c.read_front.ensures.only (Read i n) s in elim c.in-Short.is [ inl short ↦ cc | inr bad ↦ cc ]) in
-    on_ok_weaker c.push_rest.result
-    (λ e. at_rest IsUnitListing c.args.address c.args.bytes.now at rest (string_bytes c.args.out.now) (string_bytes c.loop-at.out) (string_bytes c.push_rest.new.out) _ (take_rest c.args.bytes.now at) c.loop-at.invariant stuck e)
-    c.push_rest.ensures
+    on_ok_weaker c.push_unread_bytes.result
+    (λ e. at_rest IsUnitListing c.args.address c.args.bytes.now at rest (string_bytes c.args.out.now) (string_bytes c.loop-at.out) (string_bytes c.push_unread_bytes.new.out) _ (take_rest c.args.bytes.now at) c.loop-at.invariant stuck e)
+    c.push_unread_bytes.ensures
 
 pub returns : goal.returns
 returns c = at_last IsUnitListing c.args.address c.args.bytes.now c.loop-at.at (string_bytes c.args.out.now) (string_bytes c.loop-at.out) c.loop-at-test.false c.loop-at.invariant (no_lines (c.args.address + c.loop-at.at))

@@ -1,6 +1,6 @@
 use Rattle.sfi_io.proofs.Prelude.{◌*◌, ◌++◌, ℕ, List, arith, subst, sym, drop, take, length-take-le, filter, is_kept, SpellsFront}
 use Rattle.sfi_io.proofs.Fronts.{spells_pairs}
-use Rattle.sfi_io.proofs.front.decode_line.Goals as goal
+use Rattle.sfi_io.proofs.front.decode_one_block.Goals as goal
 
 pub slice_bounds-decode_block-end : goal.slice_bounds-decode_block-end
 slice_bounds-decode_block-end c = sym (length-take-le 64 c.args.text.now (omega (arith, c.requires.text)))

@@ -1,5 +1,5 @@
 use Rattle.sfi_scan.proofs.Prelude.{ℕ, ◌≡◌, true, is_in, Nothing, IsCleanWord}
-use Rattle.sfi_scan.proofs.words.block.clean_others.Given as goal
+use Rattle.sfi_scan.proofs.words.block.clean_jumps.Given as goal
 
 -- what is left is of the words, and what is plain breaks no rule
 abbrev pub invariant-loop-rest : goal.invariant-loop-rest

@@ -1,7 +1,7 @@
 use Rattle.std.proofs.Common.{ap, sym, bit_and, bit_or, slice_index}
 use Rattle.sfi_masks.specs.private.{kept}
 use Rattle.sfi_masks.proofs.Vectors.{own, splat, zipped, chosen, same_lanes}
-use Rattle.sfi_masks.proofs.lanes.kept_classes.Goals as goal
+use Rattle.sfi_masks.proofs.lanes.writable_classes.Goals as goal
 
 pub returns-then-not-stack : goal.returns-then-not-stack
 unfolding kept

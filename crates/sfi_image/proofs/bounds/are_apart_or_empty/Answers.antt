@@ -1,6 +1,6 @@
 use Rattle.std.proofs.Common.{inl, inr, arith}
 use Rattle.std.proofs.lemmas.Bool.{cases_lt, leb-true, le-leb}
-use Rattle.sfi_image.proofs.bounds.do_not_meet.Goals as goal
+use Rattle.sfi_image.proofs.bounds.are_apart_or_empty.Goals as goal
 
 pub returns : goal.returns
 returns c =

@@ -1,7 +1,7 @@
 use Rattle.std.proofs.Common.{refl}
 use Rattle.sfi_host.specs.Slots.{span_of}
 use Rattle.sfi_host.proofs.FromOutside.{all_near, typed_near}
-use Rattle.sfi_host.proofs.sandbox.Sandbox.holds_typed_words.Goals as goal
+use Rattle.sfi_host.proofs.sandbox.Sandbox.holds_typed_if_words.Goals as goal
 
 pub returns-then-not-lie_near : goal.returns-then-not-lie_near
 returns-then-not-lie_near c = (

@@ -1,6 +1,6 @@
 use Rattle.sfi_report.proofs.Prelude.{◌≡◌, ◌++◌, take, string_bytes, flat_map}
 use Rattle.sfi_report.specs.Listing.{hex_digits}
-use Rattle.sfi_report.proofs.listing.push_rest.Given as goal
+use Rattle.sfi_report.proofs.listing.push_unread_bytes.Given as goal
 
 abbrev pub invariant-loop-byte : goal.invariant-loop-byte
 invariant-loop-byte l =

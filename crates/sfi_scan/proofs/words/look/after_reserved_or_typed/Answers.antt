@@ -2,7 +2,7 @@ use Rattle.sfi_scan.proofs.Prelude.{◌≡◌, ◌∙◌, ap, Nothing, true, sub
 use Rattle.sfi_formats.specs.Formats.{has_single_mask, is_data_register_in}
 use Rattle.sfi_formats.specs.declared.format.Format.{Format}
 use Rattle.sfi_scan.proofs.WordLook.{quiet_word, masking, placing, single, masked, placed, single_alone}
-use Rattle.sfi_scan.proofs.words.look.after_kept.Goals as goal
+use Rattle.sfi_scan.proofs.words.look.after_reserved_or_typed.Goals as goal
 
 pub returns-then-is_data_masking_word : goal.returns-then-is_data_masking_word
 returns-then-is_data_masking_word c = λ b at format before. quiet_word b at Nothing c.args.word (masking c.rs1_of-a.result) Nothing c.if-is_data_masking_word.ensures (masked b at 4 before c.rs1_of-a.result)
