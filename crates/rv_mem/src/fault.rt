@@ -19,7 +19,8 @@ pub enum AddFault {
 }
 
 impl AddFault {
-    /// The number by which the fault is known, from 1 to 3.
+    /// The fault's number, 1 to 3, for a caller that prints it or hands it on; no program, header or
+    /// document here has it. `number_of` of specs/Faults says the same.
     pub fn number(self) -> u32
         ensures { result ≡ number_of self }
     {

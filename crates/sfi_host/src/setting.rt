@@ -109,7 +109,7 @@ impl Sandbox {
     }
 
     /// Whether the reserved registers x24 to x27 hold the bases and masks of the sandbox's regions; x26
-    /// may hold anything here where it is a data register.
+    /// may hold anything here where it is a data register. `fresh_cpu` sets these values.
     fn holds_reserved(&self, cpu: &Cpu) -> bool
         requires code_size { 16 ≤ self.now.code.size }
         requires data_size { 16 ≤ self.now.data.size }

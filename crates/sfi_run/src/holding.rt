@@ -15,13 +15,16 @@ use std::mem::replace;
 #[repr(C)]
 #[derive(Drop)]
 pub struct SfiRunWorld {
+    /// 0: none; 1: a world here. sfi_run_native.c has 2 for worlds of its own, which never get here.
     held: u32,
     pub inner: HeldWorld,
     ghost flag: { held ≡ flag_of inner.world },
 }
 
 impl SfiRunWorld {
-    /// Takes the world out, for a call or to free it; `None` if there is none.
+    /// Takes the world out, for a call or to free it; `None` if there is none. `alloc` is only what the
+    /// empty place holds: nothing is allocated or freed here. `SfiRunModule` and `SfiRunConsole` do the
+    /// same.
     pub(crate) fn take(&mut self, alloc: Global) -> Option<Box<World<Pages>>>
         ensures taken { option_map (λ b. b.value) result ≡ self.old.inner.world }
         ensures none { self.new.inner.world ≡ None }

@@ -31,7 +31,8 @@ impl Random {
         self.word() % end
     }
 
-    /// True once in `count` times.
+    /// True with a chance of 1 in `count`, by one number of the generator: drawing otherwise makes other
+    /// cases of the same seeds.
     pub(crate) fn once_in(&mut self, count: u64) -> bool
         requires { 0 < count }
     {

@@ -149,7 +149,12 @@ fn run(alloc: Global, line: &str, input: &[u8], pace: Pace) -> Result<Ended, All
 /// Whether the command ends in status 5 and prints nothing where any of its reads fails, and as
 /// `whole` where none does. It makes a read for each piece of `STEP` bytes of the input and one
 /// that finds its end, and maybe one before them, of the magic alone.
-fn reads_fail(alloc: Global, line: &str, input: &[u8], whole: &Ended) -> Result<bool, AllocError> {
+fn ends_right_if_reads_fail(
+    alloc: Global,
+    line: &str,
+    input: &[u8],
+    whole: &Ended,
+) -> Result<bool, AllocError> {
     let least = input.len().div_ceil(STEP).saturating_add(1);
     for reads in 0..least.saturating_add(1) {
         let ended = run(alloc, line, input, Pace { reads, ..NEVER })?;
@@ -167,7 +172,12 @@ fn reads_fail(alloc: Global, line: &str, input: &[u8], whole: &Ended) -> Result<
 
 /// Whether the command ends in status 5 after any write that fails, or that takes nothing, with
 /// only what the writes before it took printed; and as `whole` where none fails.
-fn writes_fail(alloc: Global, line: &str, input: &[u8], whole: &Ended) -> Result<bool, AllocError> {
+fn ends_right_if_writes_fail(
+    alloc: Global,
+    line: &str,
+    input: &[u8],
+    whole: &Ended,
+) -> Result<bool, AllocError> {
     let text = whole.printed.as_slice();
     let enough = text.len().div_ceil(STEP);
     for writes in 0..enough {
@@ -203,17 +213,17 @@ fn small_steps_are_taken(
     Ok(ended.is(whole.status, whole.printed.as_slice()))
 }
 
-/// Whether the command ends with its row's status and text where nothing fails, and as the three
-/// functions above say where reads or writes fail or are small.
-fn is_right(alloc: Global, command: &Command<'_>) -> Result<bool, Fail> {
+/// Whether the command ends with its row's status, its text beginning as the row's, where nothing
+/// fails, and as the three functions above say where reads or writes fail or are small.
+fn ends_right(alloc: Global, command: &Command<'_>) -> Result<bool, Fail> {
     let line = command.line;
     let input = command.input(alloc)?;
     let whole = run(alloc, line, &input, NEVER)?;
     Ok(
         whole.status == command.status
             && whole.printed.starts_with(command.front.as_bytes())
-            && reads_fail(alloc, line, &input, &whole)?
-            && writes_fail(alloc, line, &input, &whole)?
+            && ends_right_if_reads_fail(alloc, line, &input, &whole)?
+            && ends_right_if_writes_fail(alloc, line, &input, &whole)?
             && small_steps_are_taken(alloc, line, &input, &whole)?,
     )
 }
@@ -225,7 +235,7 @@ fn commands_end_at_what_fails(rt: HostRuntime) -> Result<(), Fail> {
         let Some(command) = command_of(row) else {
             return Err(Fail::new(row));
         };
-        assert!(rt; is_right(rt.alloc(), &command)?, "{row}");
+        assert!(rt; ends_right(rt.alloc(), &command)?, "{row}");
     }
     Ok(())
 }

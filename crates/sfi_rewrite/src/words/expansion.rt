@@ -1,6 +1,8 @@
 //! What an item of the source becomes in code in words. A data register is x2, x3, x4 or x29: it
 //! holds an address in the data region or near it, so a load or store on it needs no mask, but what
-//! writes it does.
+//! writes it does. docs/SOURCE.md has the table of these expansions. For compilers
+//! tools/suygapid/passes/in_words.py makes its own; the checker trusts neither, so that one needn't
+//! follow the other.
 ghost use Rattle.std.specs.Prelude.{◌≡◌, ◌∷◌, ◌++◌, ◌+◌, ◌≤◌, [], Some, length};
 ghost use Rattle.sfi_rewrite.specs.words.Expansion.{is_made_on_x26, base_of, data_mask, makes_base, before, mask_after, IsConfined, IsPlainExpansion, IsExpansion, is_step_to, is_step_before_use, is_move, moved, IsAround};
 ghost use Rattle.rv_word.specs.Outlines.{destination};
@@ -93,7 +95,7 @@ fn push_base(format: Format, slots: &mut Expansion, a: Reg)
     }
 }
 
-/// Adds what has to stand before the instruction: before a load or store the mask of its base, if
+/// Adds to `slots` what has to stand before the instruction: before a load or store the mask of its base, if
 /// it needs one; before a jalr the pair that makes x30 a word's start in the code region.
 fn push_before(format: Format, slots: &mut Expansion, instr: &Instr)
     requires { slots.old ≡ [] }

@@ -148,9 +148,10 @@ pub(super) fn turned(world: &mut World<Segments>, alloc: Global) -> Result<Optio
 /// The arguments of a function that is called, in a0 (x10) to a7 (x17).
 pub(super) const ARGUMENTS: [u32; 8] = [11, 12, 13, 14, 15, 16, 17, 18];
 
-/// Whether sandbox 0 is entered at a bundle's start of its code, which makes it ready there, and
-/// not within a bundle or after its code; and whether sandbox 1, which isn't there, isn't either.
-fn is_entered(world: &mut World<Segments>) -> bool {
+/// Of a world whose sandbox 0 has trapped: tries to enter it within a bundle, after its code, and in
+/// sandbox 1, which isn't there. Each has to be refused and leave the trap. Then it enters sandbox 0 at
+/// its second bundle, where it has to be ready.
+fn enters_only_at_bundles(world: &mut World<Segments>) -> bool {
     !world.enter(0, 0x0100_0008, &ARGUMENTS)
         && !world.enter(0, 0x0100_0100, &ARGUMENTS)
         && !world.enter(1, 0x0100_0010, &ARGUMENTS)
@@ -168,7 +169,7 @@ fn a_sandbox_is_entered_again(rt: HostRuntime) -> Result<(), Fail> {
     let mut world = smallest_world(&rt, alloc)?;
     assert!(rt; !world.enter(0, 0x0100_0010, &ARGUMENTS));
     turned(&mut world, alloc)?;
-    assert!(rt; is_entered(&mut world));
+    assert!(rt; enters_only_at_bundles(&mut world));
     let again = Status::Trapped(Cause::Break, 0x0100_0010);
     assert_eq!(rt; turned(&mut world, alloc)?, Some(again));
     Ok(())
