@@ -1,6 +1,6 @@
 //! The parts of a line of the text, `FORM(FIELD,FIELD..)`. Each function appends one to `out`; its one
 //! error is that an allocation was refused. The macros of sfi_native.h read these fields, and paste a
-//! register's number to a name (`r##rd`): so it is plain decimal. examples/translate/lines.py writes the
+//! register's number to a name (`r##rs1`): so it is plain decimal. examples/translate/lines.py writes the
 //! same text.
 ghost use Rattle.std.specs.Prelude.{◌≡◌, ◌++◌, OnOk, string_bytes};
 ghost use Rattle.sfi_translate.specs.Translation.{opening, name_field, number_field, signed_field, address_field, closing, address_line};
