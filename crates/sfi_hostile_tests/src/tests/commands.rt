@@ -1,6 +1,8 @@
 //! Commands with what they read, and what they print of that, for tests of readers and writers that
 //! fail.
-use super::images::{C_EBREAK, EBREAK, HEAD, HI, PAIR_ON_X0, SFI1, bytes_of, digits_of};
+use super::images::{
+    C_EBREAK, DATA, EBREAK, HEAD, HI, HI_CODE, PAIR_ON_X0, SFI1, bytes_of, digits_of,
+};
 use std::alloc::Global;
 use std::test::Fail;
 
@@ -57,7 +59,14 @@ const SMALLEST: &[(&str, usize)] = &[(SFI1, 1), (HEAD, 1), (EBREAK, 64)];
 const ON_X0: &[(&str, usize)] = &[(SFI1, 1), (HEAD, 1), (PAIR_ON_X0, 1), (EBREAK, 61)];
 
 /// The image of `SOURCE`.
-const PROGRAM: &[(&str, usize)] = &[(SFI1, 1), (HI, 1), (C_EBREAK, 88), ("4869", 1)];
+const PROGRAM: &[(&str, usize)] = &[
+    (SFI1, 1),
+    (HI_CODE, 1),
+    (DATA, 1),
+    (HI, 1),
+    (C_EBREAK, 88),
+    ("4869", 1),
+];
 
 /// The pieces of the input of that name, each with how often it is repeated; `None` where none has
 /// the name.

@@ -1,7 +1,7 @@
 //! Readers and writers that fail at some call, or that give and take little at a time; inputs as long as a command takes, and
 //! one byte longer; a host that has no memory for a reply, and has it later.
 use super::commands::{COMMANDS, Command, command_of};
-use super::images::{SFI1, bytes_of, hi_pieces};
+use super::images::{DATA, SFI1, bytes_of, hi_pieces};
 use rv_mem::{Memory, Pages};
 use sfi_check::check;
 use sfi_host::{Console, GateAnswer, Gates, Guest, RunAnswer, Status, Turn, World};
@@ -360,7 +360,7 @@ const PLAN: [Turn; 1] = [Turn {
 #[test]
 fn a_refused_put_is_served_later(rt: HostRuntime) -> Result<(), Fail> {
     let alloc = rt.alloc();
-    let bytes = bytes_of(alloc, &hi_pieces(SFI1))?;
+    let bytes = bytes_of(alloc, &hi_pieces(SFI1, DATA))?;
     let accepted = check(alloc, bytes.as_slice())?;
     let mut world = World::load(alloc, &accepted, Pages::new(alloc))?;
     let mut host = Scarce {

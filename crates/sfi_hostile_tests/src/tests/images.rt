@@ -33,16 +33,30 @@ pub(super) const C_EBREAK: &str = "0290";
 /// `and x0, x10, x27`; `or x0, x0, x26`; `sw x11, 0(x0)`.
 pub(super) const PAIR_ON_X0: &str = "3370b5013360a0012320b000";
 
+/// The base of data at 01800000, as in `HEAD`; and at 80000000, a single bit, as the fourth format asks.
+pub(super) const DATA: &str = "00008001";
+
+const SINGLE_DATA: &str = "00000080";
+
 /// A program that puts two letters and exits with the code of the last: its image in the first
-/// format, after the magic and up to the fill.
-pub(super) const HI: &str = "0100000000000001000100000000800100010000200000010200000002000000\
+/// format, after the magic and up to the base of its data, and from there on up to the fill.
+pub(super) const HI_CODE: &str = "010000000000000100010000";
+
+pub(super) const HI: &str = "00010000200000010200000002000000\
     00000001010000001000000100000000\
     73000000b3ff9001b3ef8f0167800f0073000000b3ff9001b3ef8f0167800f00\
     370580011305050093052000eff05ffd37058001130505000100010001000100b37fb501b3efaf0103c51f00eff05ffc";
 
-/// The whole image of that program, of 310 bytes, after this magic.
-pub(super) fn hi_pieces(magic: &str) -> [(&str, usize); 4] {
-    [(magic, 1), (HI, 1), (C_EBREAK, 88), ("4869", 1)]
+/// The whole image of that program, of 310 bytes, after this magic, with the data at this base.
+pub(super) fn hi_pieces<'a>(magic: &'a str, data: &'a str) -> [(&'a str, usize); 6] {
+    [
+        (magic, 1),
+        (HI_CODE, 1),
+        (data, 1),
+        (HI, 1),
+        (C_EBREAK, 88),
+        ("4869", 1),
+    ]
 }
 
 /// The pieces one after another, each as often as its count says: digits, or the lines of a text.
@@ -77,8 +91,13 @@ fn is_short(alloc: Global, bytes: &[u8]) -> bool {
 #[test]
 fn every_front_is_short(rt: HostRuntime) -> Result<(), Fail> {
     let alloc = rt.alloc();
-    for magic in [SFI1, SFI2, SFIW] {
-        let bytes = bytes_of(alloc, &hi_pieces(magic))?;
+    for (magic, data) in [
+        (SFI1, DATA),
+        (SFI2, DATA),
+        (SFIW, DATA),
+        (SFIS, SINGLE_DATA),
+    ] {
+        let bytes = bytes_of(alloc, &hi_pieces(magic, data))?;
         assert_eq!(rt; bytes.len(), 310);
         for len in 0..bytes.len() {
             assert!(rt; is_short(alloc, &bytes[..len]), "{len}");
