@@ -233,6 +233,13 @@ pub no_fault : (o : Option LayoutFault) → is_some o ≡ false → o ≡ None
 no_fault None e = refl
 no_fault (Some k) e = absurd cc
 
+pub fault_is_some : (o : Option LayoutFault) → is_some o ≡ true → o ≡ None → ⊥
+fault_is_some None t e = cc
+fault_is_some (Some k) t e = cc
+
+pub cut_held : {T : List Finding → Type 0} (f : Feed) (bytes : List ℕ) → IsHeld T f bytes → (f.count ≡ 0 → ⊥) → IsCut f.reader f.count
+cut_held f bytes h some = elim h.rests [ inl cut ↦ cut | inr end ↦ absurd (some end.1) ]
+
 pub few_held : {T : List Finding → Type 0} (f : Feed) (bytes : List ℕ) → IsHeld T f bytes → f.count < 28
 few_held f bytes h = elim h.rests [ inl cut ↦ cut.few | inr end ↦ (let none = end.1 in omega arith) ]
 

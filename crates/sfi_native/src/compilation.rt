@@ -12,6 +12,7 @@ ghost use Rattle.sfi_native.specs.Lines.{AreMeasured, line_of, target_of};
 ghost use Rattle.sfi_native.specs.Places.{AreLast, code_of, distance as distance_of, distances, end_address, exit_of, placed, size_of, size_of_all, start, whole_code};
 ghost use Rattle.x86_step.specs.Running.{spellings};
 
+use crate::byte_sizes::END_BYTES;
 use crate::entries::entries;
 use crate::faults::{Access, push_access};
 use crate::head::put_end;
@@ -107,7 +108,7 @@ fn label_distance(labels: &BTreeMap<u32, u32>, all: u32, end: u32, line: &Line) 
     distance(end, all.wrapping_sub(*left))
 }
 
-/// Appends a line to those before it, where all lines have `all` bytes. The way out is 68 bytes
+/// Appends a line to those before it, where all lines have `all` bytes. The way out is `END_BYTES`
 /// behind them: `put_end` writes these.
 fn place_line(
     out: &mut Vec<u8>,
@@ -127,7 +128,13 @@ fn place_line(
     push_line(draft, plan, line, 0, 0)?;
     let end = (out.len() + draft.len()) as u32;
     let label = label_distance(labels, all, end, &line);
-    push_line(out, plan, line, label, distance(end, all.wrapping_add(68)))?;
+    push_line(
+        out,
+        plan,
+        line,
+        label,
+        distance(end, all.wrapping_add(END_BYTES)),
+    )?;
     Ok(())
 }
 

@@ -9,6 +9,7 @@ ghost use Rattle.sfi_native.specs.Entries.{AreEntries, entry_of, owed_at_entry};
 ghost use Rattle.sfi_native.specs.Lines.{AreMeasured};
 ghost use Rattle.sfi_native.specs.Places.{size_of_all};
 
+use crate::byte_sizes::END_BYTES;
 use crate::plan::Plan;
 use sfi_formats::Format;
 use sfi_image::SandboxPart;
@@ -25,8 +26,8 @@ struct Row {
 }
 
 /// The row of the unit at address `at`, where all lines have `all` bytes. Labels are as in
-/// compilation.rt. Where no line has the address, the unit is entered at the way out, behind the 68
-/// bytes of `put_end`.
+/// compilation.rt. Where no line has the address, the unit is entered at the way out, `END_BYTES`
+/// behind the lines.
 fn row_at(plan: &Plan, labels: &BTreeMap<u32, u32>, all: u32, at: u32) -> Row
     ensures entry { (code : List CodeLine) (bytes : List ℕ) → AreMeasured plan.now code bytes labels.now → all ≡ size_of_all plan.now code
         → result.entry ≡ entry_of plan.now code (label at code) }
@@ -39,7 +40,7 @@ fn row_at(plan: &Plan, labels: &BTreeMap<u32, u32>, all: u32, at: u32) -> Row
             owed: plan.owed(at),
         },
         None => Row {
-            entry: all.wrapping_add(68),
+            entry: all.wrapping_add(END_BYTES),
             owed: 0,
         },
     }

@@ -13,6 +13,7 @@ ghost use Rattle.sfi_native.specs.Registers.{IsRightPlan};
 ghost use Rattle.sfi_native.specs.Sizes.{bytes_most};
 ghost use Rattle.sfi_native.specs.File.{AreSandboxFiles, IsNativeFile, IsSandboxFile, access_bytes, count, front, place_bytes, sandbox_bytes, sealed};
 
+use crate::byte_sizes::END_BYTES;
 use crate::checksum::crc32;
 use crate::compilation::{CompiledCode, compile};
 use crate::faults::Access;
@@ -131,8 +132,8 @@ fn push_code(
 }
 
 /// Compiles the sandbox of that number by that plan, and appends it. False where its code would have
-/// more than 24 bytes (`bytes_most` of specs/Sizes.antt) for each of the sandbox's and the 68 at its
-/// end: then nothing is appended.
+/// more than 24 bytes (`bytes_most` of specs/Sizes.antt) for each of the sandbox's and `END_BYTES` at
+/// its end: then nothing is appended.
 #[tactic(auto, using(crate::proofs::CodeSizes::code_few))]
 fn push_by(
     out: &mut Vec<u8>,
@@ -155,7 +156,7 @@ fn push_by(
     let Some(code) = compile(alloc, format, part, plan, lines)? else {
         return Ok(false);
     };
-    if code.bytes.len() > 24 * part.code.len() + 68 {
+    if code.bytes.len() > 24 * part.code.len() + END_BYTES as usize {
         return Ok(false);
     }
     push_code(out, part, plan, &code)?;

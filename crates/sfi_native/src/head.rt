@@ -5,6 +5,7 @@ ghost use Rattle.std.specs.Prelude.{◌≡◌, ◌<◌, ◌++◌, OnOk};
 ghost use Rattle.sfi_native.specs.Code.{end_code, head_line, leave_code, leave_line, leave_line_size as leave_line_size_of, test_code, tested};
 ghost use Rattle.x86_step.specs.Running.{spellings};
 
+use crate::byte_sizes::{INDIRECT_JUMP_BYTES, LEAVE_BYTES};
 use crate::computation::{count_size, put_count};
 use crate::operation::put;
 use crate::register_jump::put_indirect_jump;
@@ -46,7 +47,7 @@ pub(crate) fn leave_line_size(owed: u32) -> u32
     ensures is { result ≡ leave_line_size_of owed }
     ensures few { result < 15 }
 {
-    count_size(owed, 0) + 10
+    count_size(owed, 0) + LEAVE_BYTES
 }
 
 /// Writes a test that jumps over a leave line and `label` bytes behind it, where `owed` steps are
@@ -108,9 +109,9 @@ pub fn push_head_line(
     put_tested(out, at, owed, 0, distance)
 }
 
-/// Writes the 68 bytes between the last line and the way out: what goes out with the address `at`,
-/// where the sandbox's code ends and `owed` steps are owed, in edx; and the indirect jump of 54 bytes
-/// that the lines of jalr share. `end_size` of specs/Code.antt is that 68.
+/// Writes the `END_BYTES` bytes between the last line and the way out: what goes out with the address
+/// `at`, where the sandbox's code ends and `owed` steps are owed, in edx; and the indirect jump that the
+/// lines of jalr share.
 #[tactic(auto, using(crate::proofs::Lists::end_parts))]
 pub(crate) fn put_end(out: &mut Vec<u8>, at: u32, owed: u32) -> Result<(), AllocError>
     ensures { OnOk result (out.new.items ≡ out.old.items ++ spellings (end_code at owed)) }
@@ -124,6 +125,6 @@ pub(crate) fn put_end(out: &mut Vec<u8>, at: u32, owed: u32) -> Result<(), Alloc
             imm: owed,
         },
     )?;
-    put_leave(out, at, 54)?;
+    put_leave(out, at, INDIRECT_JUMP_BYTES)?;
     put_indirect_jump(out, 0)
 }

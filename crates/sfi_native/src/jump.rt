@@ -3,6 +3,7 @@ ghost use Rattle.std.specs.Prelude.{◌≡◌, ◌++◌, ◌<◌, length, OnOk};
 ghost use Rattle.sfi_native.specs.Code.{branch_line, compare_code, has_test as has_head_test, jal_line, leap, is_bare as is_bare_jump, met_by as met_by_of, opposite as opposite_of, tested_jump};
 ghost use Rattle.x86_step.specs.Running.{spellings};
 
+use crate::byte_sizes::{HEAD_BYTES, TEST_BYTES};
 use crate::computation::{count_size, put_count, put_number};
 use crate::head::{leave_line_size, put_tested};
 use crate::operation::{operand, put, put_read, register_or, with_operand};
@@ -28,13 +29,13 @@ pub struct Jump {
 }
 
 impl Jump {
-    /// Whether it goes backwards, or past a head, of which there is one at each multiple of 128
-    /// bytes, so that it needs a head's test of the steps left itself. `may_be_bare` of owed.rt says
+    /// Whether it goes backwards, or past a head, of which there is one at each multiple of
+    /// `HEAD_BYTES`, so that it needs a head's test of the steps left itself. `may_be_bare` of owed.rt says
     /// the opposite.
     fn has_test(&self) -> bool
         ensures { result ≡ has_head_test self.now }
     {
-        self.to <= self.from || self.from / 128 != self.to / 128
+        self.to <= self.from || self.from / HEAD_BYTES != self.to / HEAD_BYTES
     }
 
     /// Whether one instruction is enough for it: it has no test, and as many steps are owed before it
@@ -53,7 +54,7 @@ impl Jump {
     {
         let counted = count_size(owed, self.label_owed);
         if self.has_test() {
-            counted + 10 + leave_line_size(self.label_owed)
+            counted + TEST_BYTES + leave_line_size(self.label_owed)
         } else {
             counted + 5
         }

@@ -17,6 +17,7 @@
 #![tactic(auto)]
 
 mod access;
+mod byte_sizes;
 mod checksum;
 mod compilation;
 mod computation;

@@ -6,6 +6,7 @@ ghost use Rattle.sfi_native.specs.Places.{instruction_code, jump_of, line_code, 
 ghost use Rattle.x86_step.specs.Running.{spellings};
 
 use crate::access::{push_load_line, push_store_line};
+use crate::byte_sizes::INDIRECT_JUMP_BYTES;
 use crate::computation::push_computing_line;
 use crate::head::{push_head_line, push_leave_line};
 use crate::jump::{Jump, push_branch_line, push_jal_line};
@@ -48,7 +49,7 @@ fn jump(plan: &Plan, at: u32, offset: i32, label: u32, exit: u32) -> Jump
 }
 
 /// Appends the line of an instruction, without its nop. The indirect jump that the lines of jalr
-/// share stands right before the way out and has 54 bytes.
+/// share stands right before the way out and has `INDIRECT_JUMP_BYTES`.
 #[tactic(auto, using(crate::proofs::Lists::no_part))]
 fn put_instruction(
     out: &mut Vec<u8>,
@@ -100,7 +101,7 @@ fn put_instruction(
             rs1,
             imm.cast_unsigned(),
             behind,
-            exit.wrapping_sub(54),
+            exit.wrapping_sub(INDIRECT_JUMP_BYTES),
         ),
         _ => {
             push_computing_line(out, plan, at, owed, next, instr)?;

@@ -7,6 +7,7 @@ ghost use Rattle.sfi_translate.specs.Lines.{AreLines, AreUnitLines, function_lin
 ghost use Rattle.sfi_native.specs.Lines.{line_of};
 ghost use Rattle.sfi_native.specs.private.{AddsLines, AreReadingLines};
 
+use crate::byte_sizes::HEAD_BYTES;
 use crate::line::Line;
 use rv_comp::{Front, read_front};
 use sfi_formats::Format;
@@ -15,10 +16,6 @@ use std::alloc::{AllocError, Global};
 
 /// A function of the code begins at each multiple of so many bytes, as in lines.rt of sfi_translate.
 const FUNCTION_MOST: usize = 16384;
-
-/// Code tests the steps that are left before the unit at each multiple of so many bytes, as in
-/// translation.rt of sfi_translate.
-const HEAD_BYTES: u32 = 128;
 
 /// Adds a line.
 fn add(out: &mut Vec<Line>, line: Line) -> Result<(), AllocError>

@@ -1,5 +1,6 @@
 //! How many steps code owes where: steps that are done, but not yet subtracted from r14. Code is
 //! right by any numbers; these make it subtract seldom.
+use crate::byte_sizes::HEAD_BYTES;
 use crate::compilation::target;
 use crate::line::Line;
 use rv_word::Instr;
@@ -54,7 +55,7 @@ impl HalfWords {
 /// Whether one instruction of the processor is enough for a branch from `at` to `to` that counts
 /// nothing: it needs no test of the steps left, as `has_test` of [`crate::Jump`] says.
 fn may_be_bare(at: u32, to: u32) -> bool {
-    to > at && to / 128 == at / 128
+    to > at && to / HEAD_BYTES == at / HEAD_BYTES
 }
 
 /// How many steps are to be owed behind the line at address `at`, where `more` are if it counts

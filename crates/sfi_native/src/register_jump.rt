@@ -11,6 +11,7 @@ ghost use Rattle.x86_instr.specs.declared.operand.Operand.TheVariants.{Mem, Reg 
 ghost use Rattle.x86_instr.specs.declared.operand.Register.TheVariants.{Rax, Rdx, Rsp};
 ghost use Rattle.x86_step.specs.Running.{spellings};
 
+use crate::byte_sizes::{ENTER_BYTES, START_AND_ENTER_BYTES};
 use crate::computation::{put_count, put_number};
 use crate::operation::{put, put_fetch, slot};
 use crate::plan::Plan;
@@ -54,8 +55,7 @@ fn with_eax(op: AluOp, src: Operand) -> Instr
 
 /// Writes the test that 65 steps are left (`most` of specs/Machine.antt in sfi_translate), and none
 /// owed, with a jump to the way out where fewer are. `distance` is from the end of the whole indirect
-/// jump to the way out; between this jump and that end are 44 bytes (`start_size` and `enter_size` of
-/// specs/Code).
+/// jump to the way out.
 #[tactic(auto, using(crate::proofs::Lists::two_parts))]
 fn put_steps_test(out: &mut Vec<u8>, distance: u32) -> Result<(), AllocError>
     ensures { OnOk result (out.new.items ≡ out.old.items ++ spellings (steps_code distance)) }
@@ -73,17 +73,14 @@ fn put_steps_test(out: &mut Vec<u8>, distance: u32) -> Result<(), AllocError>
         out,
         Instr::Jcc {
             condition: Condition::Below,
-            distance: distance.wrapping_add(44),
+            distance: distance.wrapping_add(START_AND_ENTER_BYTES),
         },
     )
 }
 
 /// Writes the test that a unit of the sandbox's code starts at the address in edx, with a jump to the
 /// way out where none does: there the mask of x25 and the base of x24 make another address of it.
-/// `distance` is from the end of the whole indirect jump to the way out; between this jump and that end
-/// are the 26 bytes of `put_enter` (`enter_size` of specs/Code). These 18 bytes (`start_size`) count in
-/// the 44 of `put_steps_test`, the 54 of head.rt and line.rt, and the 68 of head.rt, compilation.rt,
-/// entries.rt and file.rt.
+/// `distance` is from the end of the whole indirect jump to the way out.
 #[tactic(auto, using(crate::proofs::Lists::start_parts))]
 fn put_start_test(out: &mut Vec<u8>, distance: u32) -> Result<(), AllocError>
     ensures { OnOk result (out.new.items ≡ out.old.items ++ spellings (start_code distance)) }
@@ -109,7 +106,7 @@ fn put_start_test(out: &mut Vec<u8>, distance: u32) -> Result<(), AllocError>
         out,
         Instr::Jcc {
             condition: Condition::NotEqual,
-            distance: distance.wrapping_add(26),
+            distance: distance.wrapping_add(ENTER_BYTES),
         },
     )
 }
@@ -182,7 +179,7 @@ fn put_enter(out: &mut Vec<u8>) -> Result<(), AllocError>
     )
 }
 
-/// Writes the indirect jump, 54 bytes: to the unit at the address in edx, or out. `distance` is from
+/// Writes the indirect jump, `INDIRECT_JUMP_BYTES`: to the unit at the address in edx, or out. `distance` is from
 /// its end to the way out.
 #[tactic(auto, using(crate::proofs::Lists::indirect_parts))]
 pub(crate) fn put_indirect_jump(out: &mut Vec<u8>, distance: u32) -> Result<(), AllocError>
