@@ -38,7 +38,7 @@ PARTS = 6
 MOST = 20  # of what changed: some 38 seconds of a processor each, as a mean: 10 where a function is refused by itself
 AT_ONCE = 6
 HOURS = 3  # longer than it takes to make and to hand in what is merged at once
-LANES = max(1, len(os.sched_getaffinity(0)) // 2)  # beside the other scripts of ./test
+LANES = max(2, len(os.sched_getaffinity(0)) // 2)  # beside the other scripts of ./test, and after them
 IMPORT = re.compile(r"^(?:ghost |pub )*(?:use|pub mod|mod) .*\n", re.MULTILINE)
 DEFINITIONS = re.compile(r"\bRattle\.(\w+)\.specs\.((?:\w+\.)*)(?=\{|\w+;)")
 FUNCTION = re.compile(r"^([ \t]*)(?:pub(?:\([^)]*\))? )?(?:const |unsafe )*fn (\w+)", re.MULTILINE)

@@ -11,7 +11,7 @@ program=${3:+$(realpath "$3")}
 here=$(cd "$(dirname "${BASH_SOURCE[0]}")" && pwd)
 top=$(cd "$here/../.." && pwd)
 # The most bytes of code and constants that the checker may add to a program.
-most=60416
+most=61952
 source "$here/../harness.sh"
 
 # ---- images, by hand: the smallest one is 64 times ebreak in one sandbox at 01000000
