@@ -275,7 +275,7 @@ static size_t edges(sfi_u32 found[], size_t room) {
     return count;
 }
 
-/* Runs to accesses by the data registers, of which this one has that number, which is no type's. Whether it trapped. */
+/* Runs to accesses by sp, gp or tp with that number, which is no type's. Whether it trapped. */
 static int try_plain(int base, sfi_u32 number) {
     struct world it = new_world(0, PLAIN), other = translated(0, BY_EXIT, 1000000);
     restart(&other, 0, PLAIN);
@@ -291,16 +291,15 @@ static int try_plain(int base, sfi_u32 number) {
 
 /* Where masks are single, native code may access whatever a data register holds: what isn't in the data traps, each time by a fault. */
 static void test_anywhere(void) {
-    static const int bases[] = { 2, 3, 4, 26, 29, 31 };
     static sfi_u32 numbers[1000];
     const size_t count = edges(numbers, sizeof numbers / sizeof *numbers);
     struct sigaction action = { .sa_flags = SA_SIGINFO | SA_NODEFER };
     int traps = 0, runs = 0;
     action.sa_sigaction = later_handler;
     sigaction(SIGSEGV, &action, &before_later);
-    for (size_t base = 0; sandbox->single && base < sizeof bases / sizeof *bases; base++)
+    for (int base = 2; sandbox->single && base < 5; base++)
         for (size_t k = 0; k < count; k++, runs++)
-            traps += try_plain(bases[base], numbers[k]);
+            traps += try_plain(base, numbers[k]);
     check(later_faults == traps && (traps > runs / 2 || !sandbox->single), "traps are faults");
 }
 

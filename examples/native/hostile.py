@@ -38,7 +38,7 @@ def tests(run, sfi, compilers, flags, folder):
     with open(SOURCE, "rb") as file:
         source = file.read()
     for format, builds in ((b"words", BUILDS), (b"single", [BUILDS[0], *testing.by_turns(BUILDS[1:], 1)])):
-        image = run([sfi, "build"], source.replace(b".format words", b".format " + format).replace(b"#single", b"" if format == b"single" else b"#"))
+        image = run([sfi, "build"], source.replace(b".format words", b".format " + format))
         for path, data in ((text, run([sfi, "translate"], image)), (native, run([sfi, "native"], image))):
             with open(path, "wb") as file:
                 file.write(data)

@@ -1,6 +1,5 @@
 # What hostile.c runs: a0 rounds that mix a2 and write and read the data; then, by a1, exit (0), a store above the data (1), a
-# load below them (-1), or accesses by the data registers as they are (2): sp, gp, tp and t4, and by the lines after
-# `#single`, which hostile.py takes where masks are single, s10 and t6.
+# load below them (-1), or accesses by sp, gp and tp as they are (2).
 .format words
 .sandbox 8192
 .gate exit 0
@@ -32,9 +31,6 @@ below:  lw   a3, -8(t3)
 plain:  lw   a3, -4(sp)
         sw   a4, 0(gp)
         lbu  a4, 2047(tp)
-        lh   a3, 8(t4)
-#single sw   a4, 4(s10)
-#single lw   a3, 12(t6)
 leave:  li   a0, 0
         call exit
 .data

@@ -33,19 +33,9 @@ pub mod line;
 mod listing;
 mod operation;
 mod owed;
-#[cfg(test)]
-mod owed_tests;
 mod padding;
-#[cfg(test)]
-mod padding_tests;
 pub mod plan;
 mod register_jump;
-#[cfg(test)]
-mod register_tests;
-#[cfg(test)]
-mod single_tests;
-#[cfg(test)]
-mod tests;
 mod uses;
 mod weights;
 

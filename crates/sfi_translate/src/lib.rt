@@ -7,8 +7,6 @@
 mod entries;
 mod fields;
 mod lines;
-#[cfg(test)]
-mod tests;
 mod translation;
 
 pub use translation::translation_text;

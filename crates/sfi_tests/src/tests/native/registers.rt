@@ -1,11 +1,11 @@
 //! Lines by a map of registers, as the GNU assembler spells their instructions, maps that aren't right, and those that are chosen.
-use crate::owed_tests::line;
-use crate::tests::part_of;
-use crate::{
-    Jump, Plan, plan_of, push_branch_line, push_computing_line, push_load_line, push_store_line,
-};
+use super::lines::part_of;
+use super::owed::line;
 use rv_word::{Cond, ImmOp, Instr, LoadKind, Reg, RegOp, StoreWidth};
 use sfi_formats::Format;
+use sfi_native::{
+    Jump, Plan, plan_of, push_branch_line, push_computing_line, push_load_line, push_store_line,
+};
 use std::alloc::Global;
 use std::test::Fail;
 use x86_instr::Register;

@@ -1,9 +1,9 @@
 //! What differs where masks are single: x26 is a data register, and all that 32 bits and an offset can lead to is closed.
-use crate::owed_tests::line;
-use crate::tests::part_of;
-use crate::{Layout, Plan, plan_of, push_computing_line};
+use super::lines::part_of;
+use super::owed::line;
 use rv_word::{ImmOp, Instr, Reg, RegOp};
 use sfi_formats::Format;
+use sfi_native::{Layout, Plan, plan_of, push_computing_line};
 use std::alloc::Global;
 use std::test::Fail;
 

@@ -1,11 +1,11 @@
 //! Lines of code, as the GNU assembler spells their instructions.
-use crate::{
-    Jump, Line, Plan, compile, push_branch_line, push_computing_line, push_head_line,
-    push_jal_line, push_jalr_line, push_leave_line, push_line, push_load_line, push_store_line,
-};
 use rv_word::{Cond, ImmOp, Instr, LoadKind, Reg, RegOp, StoreWidth};
 use sfi_formats::Format;
 use sfi_image::SandboxPart;
+use sfi_native::{
+    Jump, Line, Plan, compile, push_branch_line, push_computing_line, push_head_line,
+    push_jal_line, push_jalr_line, push_leave_line, push_line, push_load_line, push_store_line,
+};
 use std::alloc::Global;
 use std::test::Fail;
 
@@ -328,7 +328,7 @@ const COMPILED: [u8; 148] = [
 const ENTRIES: [u32; 6] = [20, 0, 38, 0, 47, 0];
 
 /// A sandbox of that code, at 0x01000000.
-pub(crate) fn part_of(alloc: Global, code: &[u8]) -> SandboxPart<'_> {
+pub(super) fn part_of(alloc: Global, code: &[u8]) -> SandboxPart<'_> {
     SandboxPart {
         code_base: 0x0100_0000,
         data_base: 0x0200_0000,

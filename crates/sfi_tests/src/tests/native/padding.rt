@@ -1,9 +1,9 @@
 //! Nops before instructions, and where they are wanted.
-use crate::owed_tests::{addition, line, load};
-use crate::tests::part_of;
-use crate::{Plan, compile, plan_of};
+use super::lines::part_of;
+use super::owed::{addition, line, load};
 use rv_word::{Cond, Instr, Reg};
 use sfi_formats::Format;
+use sfi_native::{Plan, compile, plan_of};
 use std::test::Fail;
 use x86_instr::NopSize;
 

@@ -1,6 +1,6 @@
 //! The first lines of a translation, as `examples/translate/lines.py` makes them of a listing.
-use crate::translation_text;
 use sfi_image::parse_image;
+use sfi_translate::translation_text;
 use std::test::Fail;
 
 // The image of examples/hi.s up to its first `ebreak`: its head, its gates, and its code.

@@ -1,11 +1,11 @@
 //! Lines that count steps late, as the GNU assembler spells their instructions, and the numbers of steps that are owed.
-use crate::tests::part_of;
-use crate::{
+use super::lines::part_of;
+use rv_word::{Cond, Instr, LoadKind, Reg, RegOp, StoreWidth};
+use sfi_formats::Format;
+use sfi_native::{
     Jump, Line, Plan, compile, plan_of, push_branch_line, push_computing_line, push_head_line,
     push_jal_line, push_jalr_line, push_leave_line, push_load_line, push_store_line,
 };
-use rv_word::{Cond, Instr, LoadKind, Reg, RegOp, StoreWidth};
-use sfi_formats::Format;
 use std::test::Fail;
 
 const ADDITIONS: [u8; 44] = [
@@ -165,7 +165,7 @@ const COMPILED: [u8; 129] = [
 const ENTRIES: [u32; 6] = [20, 0, 32, 1, 49, 1];
 
 /// x7 gets the sum of x5 and x6.
-pub(crate) fn addition() -> Instr {
+pub(super) fn addition() -> Instr {
     Instr::Op {
         op: RegOp::Add,
         rd: Reg::numbered(7),
@@ -175,7 +175,7 @@ pub(crate) fn addition() -> Instr {
 }
 
 /// x5 gets the word 8 bytes behind x2.
-pub(crate) fn load() -> Instr {
+pub(super) fn load() -> Instr {
     Instr::Load {
         kind: LoadKind::Lw,
         rd: Reg::numbered(5),
@@ -185,7 +185,7 @@ pub(crate) fn load() -> Instr {
 }
 
 /// The line of an instruction so many bytes behind 0x01000000.
-pub(crate) fn line(offset: u32, size: u32, instr: Instr) -> Line {
+pub(super) fn line(offset: u32, size: u32, instr: Instr) -> Line {
     Line::Does {
         at: 0x0100_0000_u32.wrapping_add(offset),
         size,
