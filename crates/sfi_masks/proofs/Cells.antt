@@ -148,6 +148,11 @@ begins_by_kind code low high next h = by (next / 2 == 0) (next / 2 == 1) (next /
 
 -- ---- what is told is so
 
+-- `c`, of which is known that it holds unless `b` does
+pub after : (b c : Bool) → b ≡ false → (elim b [ true ↦ true | false ↦ c ]) ≡ true → c ≡ true
+after true c e h = absurd cc
+after false c e h = h
+
 module _ (code : Code) (low high : ℕ) (low_fits : low < 256) (high_fits : high < 256) where
   abbrev alone : ℕ
   alone = half_classes ALONE low high
@@ -224,10 +229,6 @@ module _ (code : Code) (low high : ℕ) (low_fits : low < 256) (high_fits : high
   cases : ((alone ≡ 0) × (others ≡ 0) × (following ≡ 0)) ⊎ (each_told ≡ true)
   unfolding cell
   cases = none_or_told _ refl (cell_at low high low_fits high_fits)
-
-  after : (b c : Bool) → b ≡ false → (elim b [ true ↦ true | false ↦ c ]) ≡ true → c ≡ true
-  after true c e h = absurd cc
-  after false c e h = h
 
   told_next : (next : ℕ) → next < 256 → each_told ≡ true
       → (free_told code low high alone others following (byte_classes NEXT next) (mask code) (kept_of code low high) (kind_of next / 2) ≡ true)

@@ -11,7 +11,7 @@ use Rattle.sfi_formats.specs.declared.format.Format.TheVariants.{Sfis}
 use Rattle.sfi_masks.specs.Masks.{is_in, word_at, IsSingleMask, AreSingleMasks}
 use Rattle.sfi_masks.specs.declared.tables.TheConstants.{MASK, MASK_NEXT}
 use Rattle.sfi_masks.specs.private.{half_classes, mask_classes, of_four, AreSingleMasksSeen}
-use Rattle.sfi_masks.proofs.Cells.{opcode, rd, funct3}
+use Rattle.sfi_masks.proofs.Cells.{opcode, rd, funct3, after}
 use Rattle.sfi_masks.proofs.Told.{word_of, rs1, word_is}
 use Rattle.sfi_masks.proofs.Block.{not_false}
 
@@ -36,11 +36,7 @@ all_second = refl
 
 told : (classes : ℕ) (is : Bool) → (classes == 0) ≡ false → cell classes is ≡ true → is ≡ true
 unfolding cell
-told classes is some h = by (classes == 0) some h
-  where
-    by : (b : Bool) → b ≡ false → (elim b [ true ↦ true | false ↦ is ]) ≡ true → is ≡ true
-    by true e h = absurd cc
-    by false e h = h
+told classes is = after (classes == 0) is
 
 first_told : (low high : ℕ) → low < 256 → high < 256 → (half_classes MASK low high == 0) ≡ false → is_first low high ≡ true
 first_told low high l h some =

@@ -153,11 +153,11 @@ told_quiet b within block m n long are lt h = elim (cases_Bool (is_in m.long (2 
 ]
 
 -- where masks are single, these are quiet too
-pub told_or_mask : (b : BundlePlace) → IsWithinBlock b → (block : List ℕ) (m : Masks) (words left n : ℕ) → length block ≡ 128 → AreMasksInWords (has_single_mask b.format) block m
-    → ((i : ℕ) → i % 8 < 7 → i < 64 → is_in words i ≡ true → is_in left i ≡ false → (has_single_mask b.format ≡ true) × IsSingleMask (word_at block i)) → ((k : ℕ) → k < 32 → is_in words (2 * k) ≡ false → IsToldFree m (2 * k)) → n < 32 → is_in left (2 * n) ≡ false → IsQuietWord b block (2 * n)
-told_or_mask b within block m words left n long are masks free lt none = elim (cases_Bool (is_in words (2 * n))) [
-  | inl there ↦ (let mask = masks (2 * n) (omega (arith, lt)) (omega (arith, lt)) there none in single_mask_quiet b within block long (2 * n) (omega arith) (omega (arith, lt)) mask.0 mask.1)
-  | inr gone ↦ told_quiet b within block m n long are lt (free n lt gone)
+pub told_or_mask : (b : BundlePlace) → IsWithinBlock b → (single : Bool) → single ≡ has_single_mask b.format → (block : List ℕ) (m : Masks) (words left n : ℕ) → length block ≡ 128 → AreMasksInWords single block m
+    → ((i : ℕ) → i % 8 < 7 → i < 64 → is_in words i ≡ true → is_in left i ≡ false → (single ≡ true) × IsSingleMask (word_at block i)) → ((k : ℕ) → k < 32 → is_in words (2 * k) ≡ false → IsToldFree m (2 * k)) → n < 32 → is_in left (2 * n) ≡ false → IsQuietWord b block (2 * n)
+told_or_mask b within single by_format block m words left n long are masks free lt none = elim (cases_Bool (is_in words (2 * n))) [
+  | inl there ↦ (let mask = masks (2 * n) (omega (arith, lt)) (omega (arith, lt)) there none in single_mask_quiet b within block long (2 * n) (omega arith) (omega (arith, lt)) (sym by_format ∙ mask.0) mask.1)
+  | inr gone ↦ told_quiet b within block m n long (subst (λ (s : Bool). AreMasksInWords s block m) by_format are) lt (free n lt gone)
 ]
 
 -- what was not in it, or was taken out, is not left

@@ -5,9 +5,9 @@ use Rattle.sfi_formats.specs.Formats.{has_words}
 use Rattle.sfi_rules.specs.words.Findings.{AreFoundInBundle, AreFoundOfFirst}
 use Rattle.sfi_scan.specs.Stretches.{AreFoundInStretch}
 use Rattle.sfi_scan.proofs.Stretches.{stretch_in_part, place_in_block, rest_bundle}
-use Rattle.sfi_scan.specs.private.Scanning.{IsBlockStart, IsFrontClean}
+use Rattle.sfi_scan.specs.private.Scanning.{IsBlockStart, IsRunClean, AreBundlesTo, AreSomeBundlesTo}
 use Rattle.sfi_scan.specs.private.Words.{bytes_at}
-use Rattle.sfi_scan.proofs.Fronts.{block_front}
+use Rattle.sfi_scan.proofs.Fronts.{block_front, walk_at, walk_on}
 
 -- ==== Stretches of code in words: the findings of one after another, and those of a stretch in a part.
 
@@ -70,6 +70,15 @@ module _ {F : Type 0} (takes : F → List Finding → F → Type 0) where
     few = omega (arith, one.few, two.few, length-append one.found two.found);
     handed = more s t u one.found two.found one.handed two.handed;
   }
+
+  -- a walk over a stretch, and bundles without a finding up to byte `end`
+  pub words_skipped : ((s t u : F) (xs ys : List Finding) → takes s xs t → takes t ys u → takes s (xs ++ ys) u)
+      → (b : BundlePlace) (owed between next : Owed) (code : List ℕ) (at end : ℕ) (s t : F) → takes t [] t
+      → (w : AreBundlesTo code 0 at (λ n. IsWordCodeScanned takes b owed code n between s t)) → IsRunClean b between code w.bundles end next
+      → AreBundlesTo code 0 end (λ n. IsWordCodeScanned takes b owed code n next s t)
+  words_skipped more b owed between next code at end s t none w run =
+      walk_on b w (walk_at w) run
+      (λ i places bytes told. words_scanned_more more (stretch_place b w.bundles) b owed (drop (16 * w.bundles) code) code w.bundles i between next s t t places bytes w.told (words_clean t none told))
 
 -- ---- in a part
 
@@ -158,7 +167,7 @@ clean_stretch b owed block from plain (suc k) next h =
 -- what a look at a block of a stretch tells, from bundle k of it on
 pub block_seen : (b : BundlePlace) (owed next : Owed) (code : List ℕ) (k start : ℕ) (s : IsBlockStart b code k start)
     → AreCleanWords (stretch_place b s.first) owed (take 128 (drop (16 * s.first) code)) (4 * s.before) (4 * (8 - s.before)) next
-    → IsFrontClean b owed code k (start + 128) next
+    → AreSomeBundlesTo code k (start + 128) (λ n. AreWordStretchFindings (stretch_place b k) owed (drop (16 * k) code) n [] next)
 block_seen b owed next code k start s h =
     block_front (λ (c : BundlePlace) (l : List ℕ) (n : ℕ). AreWordStretchFindings c owed l n [] next) (λ c xs ys n. words_same c owed xs ys n [] next) b code k start s
     (clean_stretch (stretch_place b s.first) owed (take 128 (drop (16 * s.first) code)) s.before s.plain (8 - s.before) next h)

@@ -10,7 +10,7 @@ ghost use Rattle.sfi_formats.specs.Limits.{bundle_size};
 ghost use Rattle.sfi_rules.specs.Readings.{IsWithin};
 ghost use Rattle.sfi_rules.specs.words.Findings.{AreFoundInBundle};
 ghost use Rattle.sfi_scan.specs.Stretches.{IsStretch};
-ghost use Rattle.sfi_scan.specs.private.Scanning.{IsFrontClean, IsRunClean, IsWordCodeScanned, IsWordFrontScanned};
+ghost use Rattle.sfi_scan.specs.private.Scanning.{IsRunClean, IsWordCodeScanned, IsWordFrontScanned};
 
 mod block;
 mod look;

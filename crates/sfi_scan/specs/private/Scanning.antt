@@ -91,12 +91,6 @@ IsWordFrontScanned takes b owed bytes k end next before after =
     AreSomeBundlesTo bytes k end (λ n. IsWordCodeScanned takes (stretch_place b k) owed
     (drop (bundle_size * k) bytes) n next before after)
 
--- the bundles from bundle k to byte `end`, at least one, break no rule as code in words
-abbrev pub IsFrontClean : BundlePlace → Owed → List ℕ → ℕ → ℕ → Owed → Type 0
-IsFrontClean b owed bytes k end next =
-    AreSomeBundlesTo bytes k end (λ n.
-    AreWordStretchFindings (stretch_place b k) owed (drop (bundle_size * k) bytes) n [] next)
-
 -- the bundles from bundle k to byte `end`, if there are any, break no rule as code in words
 abbrev pub IsRunClean : BundlePlace → Owed → List ℕ → ℕ → ℕ → Owed → Type 0
 IsRunClean b owed bytes k end next =

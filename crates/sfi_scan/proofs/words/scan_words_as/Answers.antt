@@ -1,6 +1,6 @@
-use Rattle.sfi_scan.proofs.Prelude.{ℕ, ◌+◌, ◌*◌, ◌≤◌, drop, refl, arith, AreBundlesTo, IsWordCodeScanned, stretch_place}
+use Rattle.sfi_scan.proofs.Prelude.{ℕ, ◌+◌, ◌*◌, ◌≤◌, drop, refl, arith, IsWordCodeScanned, stretch_place}
 use Rattle.sfi_scan.proofs.Fronts.{front_ahead, walk_at, walk_nearer, walk_on, walk_over}
-use Rattle.sfi_scan.proofs.WordStretches.{words_clean, words_scanned_more, words_scanned_none}
+use Rattle.sfi_scan.proofs.WordStretches.{words_scanned_more, words_scanned_none, words_skipped}
 use Rattle.sfi_scan.proofs.words.scan_words_as.Goals as goal
 
 pub loop-at-init : goal.loop-at-init
@@ -35,11 +35,9 @@ returns-then-end-code g c = λ n run.
     let before = c.args.sink.now in
     let sink = c.loop-at.sink in
     let w = c.loop-at.invariant in
-    let at_is = walk_at w in
-    let holds : ℕ → Type 0 = λ m. IsWordCodeScanned takes b c.args.owed code m next before sink in
-    let skipped : AreBundlesTo code 0 c.skip_clean_code-end.result.0 holds = walk_on b w at_is (c.skip_clean_code-end.ensures w.bundles at_is)
-    (λ i places bytes told. words_scanned_more takes g.met.F.FindingSink.more (stretch_place b w.bundles) b c.args.owed (drop (16 * w.bundles) code) code w.bundles i c.loop-at.left next before sink sink places bytes w.told (words_clean takes sink (g.met.F.FindingSink.none sink) told)) in
-    walk_over holds skipped run (let all = c.if-end-code.true in omega arith)
+    let skipped = words_skipped takes g.met.F.FindingSink.more b c.args.owed c.loop-at.left next code c.loop-at.at c.skip_clean_code-end.result.0 before sink (g.met.F.FindingSink.none sink) w
+    (c.skip_clean_code-end.ensures w.bundles (walk_at w)) in
+    walk_over (λ m. IsWordCodeScanned takes b c.args.owed code m next before sink) skipped run (let all = c.if-end-code.true in omega arith)
 
 pub loop-at-smaller : goal.loop-at-smaller
 loop-at-smaller g c =
@@ -58,10 +56,8 @@ loop-at-preserved g c =
     let before = c.args.sink.now in
     let sink = c.loop-at.sink in
     let w = c.loop-at.invariant in
-    let at_is = walk_at w in
-    let holds : ℕ → Type 0 = λ m. IsWordCodeScanned takes b c.args.owed code m next before sink in
-    let skipped : AreBundlesTo code 0 c.skip_clean_code-end.result.0 holds = walk_on b w at_is (c.skip_clean_code-end.ensures w.bundles at_is)
-    (λ i places bytes told. words_scanned_more takes g.met.F.FindingSink.more (stretch_place b w.bundles) b c.args.owed (drop (16 * w.bundles) code) code w.bundles i c.loop-at.left next before sink sink places bytes w.told (words_clean takes sink (g.met.F.FindingSink.none sink) told)) in
+    let skipped = words_skipped takes g.met.F.FindingSink.more b c.args.owed c.loop-at.left next code c.loop-at.at c.skip_clean_code-end.result.0 before sink (g.met.F.FindingSink.none sink) w
+    (c.skip_clean_code-end.ensures w.bundles (walk_at w)) in
     let there = walk_at skipped in
     walk_on b skipped there (c.scan_bundles.ensures skipped.bundles there)
     (λ i places bytes told. words_scanned_more takes g.met.F.FindingSink.more (stretch_place b skipped.bundles) b c.args.owed (drop (16 * skipped.bundles) code) code skipped.bundles i next _ before sink c.scan_bundles.new.sink places bytes skipped.told told.1)

@@ -1,5 +1,5 @@
-use Rattle.sfi_scan.proofs.Prelude.{Bool, inl, sym, ◌∙◌, subst, arith, OnTrue_at}
-use Rattle.sfi_masks.specs.Masks.{word_at, may_write_in_words, may_be_on_in_words, AreMasksInWords, IsFreeWordBy}
+use Rattle.sfi_scan.proofs.Prelude.{Bool, inl, subst, arith, OnTrue_at}
+use Rattle.sfi_masks.specs.Masks.{word_at, may_write_in_words, may_be_on_in_words, IsFreeWordBy}
 use Rattle.sfi_scan.proofs.Marks.{in_rest, in_rest_other}
 use Rattle.sfi_scan.proofs.WordMarks.{all_seen, told_or_mask}
 use Rattle.sfi_scan.proofs.words.block.look_at_block.Goals as goal
@@ -10,10 +10,8 @@ doubtful_words-left-requires-clause-words g c i lt h = c.not_free.ensures.words 
 pub doubtful_words-left-requires-clause-quiet : goal.doubtful_words-left-requires-clause-quiet
 doubtful_words-left-requires-clause-quiet g c n lt none =
     let m = c.word_masks_of-masks in
-    told_or_mask c.args.place.now c.requires.within c.args.block.now m.result c.not_free.result c.without_single_masks-words.result n c.told-block
-    (subst (λ (s : Bool). AreMasksInWords s c.args.block.now m.result) c.requires.single m.ensures)
-    (λ i inside low there gone. let mask = c.without_single_masks-words.ensures.masks i inside low there gone in (sym c.requires.single ∙ mask.0, mask.1))
-    c.not_free.ensures.free lt none
+    told_or_mask c.args.place.now c.requires.within _ c.requires.single c.args.block.now m.result c.not_free.result c.without_single_masks-words.result n c.told-block m.ensures
+    c.without_single_masks-words.ensures.masks c.not_free.ensures.free lt none
 
 pub doubtful_words-left-requires-clause-free : goal.doubtful_words-left-requires-clause-free
 doubtful_words-left-requires-clause-free g c i lt even h =
@@ -25,8 +23,6 @@ pub returns-then-is_nothing : goal.returns-then-is_nothing
 returns-then-is_nothing g c =
     let m = c.word_masks_of-masks in
     all_seen c.args.place.now c.args.block.now c.args.owed c.without_single_masks-words.result c.args.from c.requires.inside c.requires.within
-    (λ n lt none. inl (told_or_mask c.args.place.now c.requires.within c.args.block.now m.result c.not_free.result c.without_single_masks-words.result n c.told-block
-    (subst (λ (s : Bool). AreMasksInWords s c.args.block.now m.result) c.requires.single m.ensures)
-    (λ i inside low there gone. let mask = c.without_single_masks-words.ensures.masks i inside low there gone in (sym c.requires.single ∙ mask.0, mask.1))
-    c.not_free.ensures.free lt none))
+    (λ n lt none. inl (told_or_mask c.args.place.now c.requires.within _ c.requires.single c.args.block.now m.result c.not_free.result c.without_single_masks-words.result n c.told-block m.ensures
+    c.without_single_masks-words.ensures.masks c.not_free.ensures.free lt none))
     c.if-words-eq0.true (OnTrue_at c.if-is_nothing.true c.is_nothing.ensures)
