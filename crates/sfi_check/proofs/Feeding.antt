@@ -1,5 +1,5 @@
 -- What a feed holds, and the answer on a stream.
-use Rattle.sfi_check.proofs.Prelude.{◌≡◌, ℕ, ◌<◌, true, false, List, [], ◌∷◌, ◌++◌, length, Option, None, refl, sym, ap, ◌∙◌, subst, arith, append_assoc, inr, slice_get, Part, IsFault, ImagePrefix, prefix_bytes, HasFaultWhateverFollows, Empty, Whole, LayoutReader, StandsFor, left, Finding, AreImageFindings, StreamAnswer, Tally, Tallies, IsSoFar, IsCut, verdict_by, verdict_of, HasFindings, IsVerdictOn, AreHandedOver, IsImage, LayoutFault, ◌≤◌, ◌+◌, ◌⊎◌, Some, take, inl, is_some, append-nil, length-take, length-append, take-append_seam, want_of, IsLess, HoldsOfSome, IsFedFinding, IsFedBy, IsHeld, left_to_feed}
+use Rattle.sfi_check.proofs.Prelude.{◌≡◌, ℕ, ◌<◌, Bool, true, false, List, [], ◌∷◌, ◌++◌, length, Option, None, refl, sym, ap, ◌∙◌, subst, arith, append_assoc, inr, slice_get, Part, IsFault, ImagePrefix, prefix_bytes, HasFaultWhateverFollows, Empty, Whole, LayoutReader, StandsFor, left, Finding, AreImageFindings, StreamAnswer, Tally, Tallies, IsSoFar, IsCut, verdict_by, verdict_of, HasFindings, IsVerdictOn, AreHandedOver, IsImage, LayoutFault, ◌≤◌, ◌+◌, ◌⊎◌, Some, take, inl, is_some, append-nil, length-take, length-append, take-append_seam, want_of, IsLess, HoldsOfSome, IsFedFinding, IsFedBy, IsHeld, left_to_feed}
 use Rattle.sfi_image.specs.declared.fault.LayoutFault.TheVariants as faults
 use Rattle.sfi_image.specs.declared.want.Stage.TheVariants as stage
 use Rattle.sfi_check.specs.declared.stream_answer.StreamAnswer.TheVariants as answers
@@ -232,6 +232,10 @@ fed_after_fault T f before more e h = after_fault T f.fault f before more e h
 pub no_fault : (o : Option LayoutFault) → is_some o ≡ false → o ≡ None
 no_fault None e = refl
 no_fault (Some k) e = absurd cc
+
+-- and what it holds then
+pub held_without_fault : {T : List Finding → Type 0} (f : Feed) (bytes : List ℕ) {some : Bool} → some ≡ is_some f.fault → some ≡ false → IsFedFinding T f bytes → IsHeld T f bytes
+held_without_fault f bytes told none h = fed_held f bytes (no_fault f.fault (sym told ∙ none)) h
 
 pub fault_is_some : (o : Option LayoutFault) → is_some o ≡ true → o ≡ None → ⊥
 fault_is_some None t e = cc
