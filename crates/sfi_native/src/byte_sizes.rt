@@ -1,5 +1,4 @@
-//! Sizes in bytes that parts of the code count on, as specs/Code.antt has them, and the distance of
-//! heads.
+//! Sizes in bytes that parts of the code count on, as specs/Code.antt has them.
 
 /// The way out of a line (`leave_size`): the sandbox's address, and a jump.
 pub(crate) const LEAVE_BYTES: u32 = 10;
@@ -21,7 +20,3 @@ pub(crate) const INDIRECT_JUMP_BYTES: u32 = TEST_BYTES + START_AND_ENTER_BYTES;
 
 /// What stands between the last line and the way out (`end_size`), the indirect jump with it.
 pub(crate) const END_BYTES: u32 = 4 + LEAVE_BYTES + INDIRECT_JUMP_BYTES;
-
-/// A head, which tests the steps left, stands before the unit at each multiple of so many bytes, as
-/// in translation.rt of sfi_translate.
-pub(crate) const HEAD_BYTES: u32 = 128;

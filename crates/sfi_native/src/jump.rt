@@ -3,12 +3,13 @@ ghost use Rattle.std.specs.Prelude.{◌≡◌, ◌++◌, ◌<◌, length, OnOk};
 ghost use Rattle.sfi_native.specs.Code.{branch_line, compare_code, has_test as has_head_test, jal_line, leap, is_bare as is_bare_jump, met_by as met_by_of, opposite as opposite_of, tested_jump};
 ghost use Rattle.x86_step.specs.Running.{spellings};
 
-use crate::byte_sizes::{HEAD_BYTES, TEST_BYTES};
+use crate::byte_sizes::TEST_BYTES;
 use crate::computation::{count_size, put_count, put_number};
 use crate::head::{leave_line_size, put_tested};
 use crate::operation::{operand, put, put_read, register_or, with_operand};
 use crate::plan::Plan;
 use rv_word::{Cond, Reg};
+use sfi_translate::HEAD_BYTES;
 use std::alloc::AllocError;
 use x86_instr::{AluOp, Condition, Instr, Register};
 

@@ -7,15 +7,12 @@ ghost use Rattle.sfi_translate.specs.Lines.{AreLines, AreUnitLines, function_lin
 ghost use Rattle.sfi_native.specs.Lines.{line_of};
 ghost use Rattle.sfi_native.specs.private.{AddsLines, AreReadingLines};
 
-use crate::byte_sizes::HEAD_BYTES;
 use crate::line::Line;
 use rv_comp::{Front, read_front};
 use sfi_formats::Format;
 use sfi_image::SandboxPart;
+use sfi_translate::{FUNCTION_MOST, HEAD_BYTES};
 use std::alloc::{AllocError, Global};
-
-/// A function of the code begins at each multiple of so many bytes, as in lines.rt of sfi_translate.
-const FUNCTION_MOST: usize = 16384;
 
 /// Adds a line.
 fn add(out: &mut Vec<Line>, line: Line) -> Result<(), AllocError>
@@ -37,7 +34,7 @@ fn push_function(
 {
     if offset == 0 {
         add(out, Line::Function { sandbox, at })?;
-    } else if offset % FUNCTION_MOST == 0 {
+    } else if offset % FUNCTION_MOST as usize == 0 {
         add(out, Line::End { at })?;
         add(out, Line::Function { sandbox, at })?;
     }

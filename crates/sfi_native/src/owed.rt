@@ -1,10 +1,10 @@
 //! How many steps code owes where: steps that are done, but not yet subtracted from r14. Code is
 //! right by any numbers; these make it subtract seldom.
-use crate::byte_sizes::HEAD_BYTES;
 use crate::compilation::target;
 use crate::line::Line;
 use rv_word::Instr;
 use sfi_image::SandboxPart;
+use sfi_translate::HEAD_BYTES;
 use std::alloc::{AllocError, Global};
 
 /// Fewer steps than this are owed anywhere.

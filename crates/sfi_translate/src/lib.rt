@@ -9,4 +9,5 @@ mod fields;
 mod lines;
 mod translation;
 
-pub use translation::translation_text;
+pub use lines::FUNCTION_MOST;
+pub use translation::{HEAD_BYTES, translation_text};

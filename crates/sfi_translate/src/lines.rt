@@ -12,8 +12,8 @@ use sfi_text::{branch_name, immediate_name, load_name, op_name, store_name};
 use std::alloc::AllocError;
 
 /// The most bytes of code that one function of the text (in C) holds. `function_most` of
-/// specs/Lines.antt, listing.rt of sfi_native and examples/translate/lines.py have this number, too.
-pub(crate) const FUNCTION_MOST: u32 = 16384;
+/// specs/Lines.antt and examples/translate/lines.py have this number, too.
+pub const FUNCTION_MOST: u32 = 16384;
 
 /// Appends the fields of two registers.
 fn push_two_registers(out: &mut String, first: Reg, second: Reg) -> Result<(), AllocError>

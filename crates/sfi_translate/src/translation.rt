@@ -17,9 +17,9 @@ use sfi_report::push_eight_digits;
 use std::alloc::{AllocError, Global};
 
 /// At each address that is a multiple of this stands a `HEAD` line, where code tests the steps that a
-/// turn has left. `head_bytes` of specs/Lines.antt, listing.rt of sfi_native and
-/// examples/translate/lines.py have this number, too.
-const HEAD_BYTES: u32 = 128;
+/// turn has left. `head_bytes` of specs/Lines.antt and examples/translate/lines.py have this number,
+/// too.
+pub const HEAD_BYTES: u32 = 128;
 
 /// Appends the line with which a function of the text begins, `FUNCTION(SANDBOX,ADDRESS)`.
 #[tactic(auto, unfolding(crate::specs::Translation::function_line))]
