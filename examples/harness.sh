@@ -37,7 +37,11 @@ digits_of() { od -An -v -tx1 "$@" | tr -d ' \n'; } # the bytes of a file, or of 
 
 has() { command -v "$1" >"$room/which" 2>&1; }
 
-lacking() { "$programs/../../tools/testing.py" "$@"; } # what of these isn't there, as that says, or nothing
+# What of these isn't there, as tools/testing.py says, or nothing. A compiler of hosts for another machine is there if it makes a program
+# with its C library, which `has` doesn't ask.
+lacking() {
+    if command -v python3 >/dev/null; then "$programs/../../tools/testing.py" "$@"; else echo "python3 isn't there"; fi
+}
 
 # The image of a program of examples/c, in hexadecimal, by tools/sfi-cc and the program $SFI.
 programs=$(cd "$(dirname "${BASH_SOURCE[0]}")/c" && pwd)

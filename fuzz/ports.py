@@ -213,10 +213,10 @@ class Players:
                     self.found.append((port, program))
 
     def is_there(self, port, wanted, so=""):
-        absent = [it for it in wanted if not testing.is_there(it)]
-        if absent:
-            self.tally.skip(1, f"suygapid_run.c for {port.name}", f"{so}{absent[0]} isn't there")
-        return not absent
+        why = testing.lacking(*wanted)
+        if why:
+            self.tally.skip(1, f"suygapid_run.c for {port.name}", so + why)
+        return not why
 
     def play(self, made):
         """Makes the calls of a trace anew, by each."""

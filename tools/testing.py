@@ -29,12 +29,25 @@ SOURCES = {it.name: it for it in (GCC_SOURCE, NEWLIB_SOURCE)}
 # By what tests name, what that stands on: the compilers of sandboxes, and what sfi-cc compiles of sources when it is first wanted.
 FLOATS, NEWLIB = "floating point", "newlib"
 PARTS = {GCC: (GCC, *OF_BINUTILS), CLANG: (CLANG, "llc", *OF_BINUTILS), FLOATS: (GCC_SOURCE.name,), NEWLIB: (NEWLIB_SOURCE.name, GCC_SOURCE.name)}
+# The compilers of hosts for other machines: the C library of each, with its headers, is in a package of its own.
+OF_HOSTS = ("aarch64-linux-gnu-gcc", "arm-linux-gnueabihf-gcc", "riscv64-linux-gnu-gcc", "x86_64-w64-mingw32-gcc")
+WITH_LIBRARY = b"#include <stdio.h>\n#include <stdlib.h>\n#include <string.h>\nint main(void) { return printf(\"%s\", getenv(\"HOME\")) < 0; }\n"
+
+
+@functools.cache
+def makes_programs(compiler):
+    """Whether a compiler is there with a C library: whether it makes a program that is linked with that, as hosts are."""
+    with tempfile.TemporaryDirectory() as room:
+        words = [compiler, "-static", "-x", "c", "-", "-o", os.path.join(room, "program")]
+        return shutil.which(compiler) is not None and subprocess.run(words, input=WITH_LIBRARY, capture_output=True, check=False).returncode == 0
 
 
 def is_there(name):
     """Whether a command, also by its path, a folder by its path, or one of Debian's packages of sources, is there."""
     if name in SOURCES:
         return SOURCES[name].where() is not None
+    if name in OF_HOSTS:
+        return makes_programs(name)
     return os.path.isabs(name) and os.path.isdir(name) or shutil.which(name) is not None
 
 
@@ -42,7 +55,8 @@ def lacking(*names):
     """What of these commands, folders, packages of sources and names of PARTS isn't there: words that say so, or none."""
     wanted = [part for name in names for part in PARTS.get(name, (name,))]
     missing = list(dict.fromkeys(it for it in wanted if not is_there(it)))
-    *first, last = [f"Debian's package {it}" if it in SOURCES else it for it in missing] or [""]
+    said = {it: f"Debian's package {it}" for it in SOURCES} | {it: f"{it} with a C library" for it in OF_HOSTS}
+    *first, last = [said.get(it, it) for it in missing] or [""]
     return f"{', '.join(first)} and {last} aren't there" if first else f"{last} isn't there" if last else ""
 
 

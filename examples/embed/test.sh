@@ -366,12 +366,11 @@ fi
 arm=$(dirname "$library")/aarch64-unknown-linux-gnu/libsfi_c.a
 module=$(dirname "$library")/wasm64-unknown-unknown/sfi.wasm
 not_built="isn't there: tools/build_library.py builds it"
+no_arm=$(lacking aarch64-linux-gnu-gcc qemu-aarch64)
 if [ ! -f "$arm" ]; then
     skip $((3 + in_whole)) "the hosts in C on aarch64" "$arm $not_built"
-elif ! has aarch64-linux-gnu-gcc; then
-    skip $((3 + in_whole)) "the hosts in C on aarch64" "aarch64-linux-gnu-gcc isn't there"
-elif ! has qemu-aarch64; then
-    skip $((3 + in_whole)) "the hosts in C on aarch64" "qemu-aarch64 isn't there"
+elif [ -n "$no_arm" ]; then
+    skip $((3 + in_whole)) "the hosts in C on aarch64" "$no_arm"
 else
     run_c " on aarch64" "$arm" qemu-aarch64 aarch64-linux-gnu-gcc -static
 fi

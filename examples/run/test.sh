@@ -51,12 +51,11 @@ build_c() {
 
 # The same hosts for aarch64, over the library that tools/build_library.py builds for it.
 build_arm() {
-    local arm name
+    local arm name why
     [ -z "$commands" ] || return
     arm=$(dirname "$library")/aarch64-unknown-linux-gnu/libsfi_run.a
-    for name in aarch64-linux-gnu-gcc qemu-aarch64; do
-        has "$name" || { skip 1 "hosts in C on aarch64" "$name isn't there" && return; }
-    done
+    why=$(lacking aarch64-linux-gnu-gcc qemu-aarch64)
+    [ -z "$why" ] || { skip 1 "hosts in C on aarch64" "$why" && return; }
     [ -f "$arm" ] || { skip 1 "hosts in C on aarch64" "$arm isn't built (tools/build_library.py sfi_run)" && return; }
     for name in "${examples[@]}"; do
         succeeds "$name.c for aarch64" aarch64-linux-gnu-gcc -static -std=c11 "${warnings[@]}" "$here/$name.c" \
