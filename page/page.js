@@ -25,7 +25,7 @@ function timed(what, does) {
     return result;
 }
 
-// A key that stands for a label's or a gate's place, with its name.
+// A key that stands for a label's or a gate's place, with its name: of the lines that push_map_line of sfi_answers appends.
 function namesOf(text) {
     const lines = tool.answer(["map"], text).text.trim().split("\n").filter(Boolean).map((it) => /^sandbox=(\d+) (\w+) (\S+) at=(\w+)$/.exec(it));
     return new Map(lines.filter((it) => it[2] !== "data").map(([, sandbox, , name, at]) => [`${sandbox} ${at}`, { name }]));

@@ -27,7 +27,8 @@ fn kind_name(kind: NameKind) -> &'static str
     }
 }
 
-/// Appends the line of a gate or label.
+/// Appends the line of a gate or label. page/page.js and tools/suygapid/trace/programs.py read it
+/// by regular expressions.
 fn push_map_line(out: &mut String, entry: &NameAddress) -> Result<(), AllocError>
     ensures { OnOk result (string_bytes out.new
         ≡ string_bytes out.old ++ map_line entry.now) }

@@ -16,6 +16,7 @@ from suygapid.elf.where import lines_of
 SFI_CC = os.path.join(TOOLS, "sfi-cc")
 LISTED = re.compile(r"^([0-9a-f]{8}) ([0-9a-f]{4,8}) (.*)$", re.MULTILINE)
 REGION = re.compile(r"^sandbox (\d+) code ([0-9a-f]{8}) (\d+) data ", re.MULTILINE)
+# A line of `sfi map`, as push_map_line of crates/sfi_answers/src/mapping.rt appends it.
 MAPPED = re.compile(r"^sandbox=(\d+) (gate|code|data) (\S+) at=([0-9a-f]{8})$", re.MULTILINE)
 CALL = re.compile(r"^jal x([1-9]\d*), (-?\d+)$")
 START = "_sfi_start"  # where a program of sfi-cc begins
