@@ -62,8 +62,8 @@ impl Function {
         ensures unasked { (error : CallError) → IsErrOf result error → IsNotBegun error
             → gates.new ≡ gates.old }
 
-        // Else it is what its turn comes to, from the world in which the text is in its place and the
-        // sandbox at the function.
+        // Else it is what its turn comes to, from the world in which the text is in its place and
+        // the sandbox at the function.
         ensures ran { HasRun result → (machine : Machine) → IsMachine machine
             → IsJoint machine G.answer (plan_of self)
             (slots_of (called self text.old world.old)) gates.old (slots_of world.new) gates.new }

@@ -133,8 +133,8 @@ fn values_of(bytes: u8x64) -> u8x64
     ensures each { (k : ℕ) → k < 64 → 240 ≤ slice_index result k
         → hex_digit_value (slice_index bytes k) ≡ Some (slice_index result k - 240) }
 {
-    // The sums of the figures are from 246 to 255, and those of all other bytes are less; then those
-    // of the letters are from 250 to 255.
+    // The sums of the figures are from 246 to 255, and those of all other bytes are less; then
+    // those of the letters are from 250 to 255.
     let figures = (bytes + u8x64::splat(255 - b'9')).saturating_sub(u8x64::splat(6));
     let letters = ((bytes - u8x64::splat(1)) | u8x64::splat(32)) + u8x64::splat(154);
     figures.simd_max(letters)

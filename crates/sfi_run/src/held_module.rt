@@ -22,8 +22,8 @@ impl Model for HeldModule {
     ghost also_owns = { λ h. module_owns h.alloc h.at h.parts };
 }
 
-// What is in the box is data that no other thread writes, but for the counts of owners, which are atomic;
-// any thread may free it.
+// What is in the box is data that no other thread writes, but for the counts of owners, which are
+// atomic; any thread may free it.
 unsafe impl Send for HeldModule {}
 
 impl HeldModule {

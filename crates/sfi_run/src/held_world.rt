@@ -23,8 +23,8 @@ impl Model for HeldWorld {
     ghost also_owns = { λ h. held_owns h.alloc h.at h.world };
 }
 
-// What is in the box is data that no other thread writes, but for the counts of owners, which are atomic;
-// any thread may free it.
+// What is in the box is data that no other thread writes, but for the counts of owners, which are
+// atomic; any thread may free it.
 unsafe impl Send for HeldWorld {}
 
 impl HeldWorld {

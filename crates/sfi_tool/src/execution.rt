@@ -260,7 +260,8 @@ pub fn exec<R: Read, W: Write, E: Write>(
     ensures tells { IfErr result (λ fault. OfText image.now (TellsOf (errors.new ≡ errors.old)
         (E.contents errors.old) (E.contents errors.new) fault)) }
 
-    // Then nothing of the input is read and nothing is put, or it is an accepted image, whose run was begun.
+    // Then nothing of the input is read and nothing is put, or it is an accepted image, whose run
+    // was begun.
     ensures begins { IfErr result (λ fault. OfText image.now (λ text.
         ((reader.new ≡ reader.old) × (writer.new ≡ writer.old))
         ⊎ HasBegun budget (R.remaining reader.old) (W.contents writer.old)
