@@ -2,7 +2,9 @@
 //! spots; the checks have to make one finding there, at the attack's instruction, or none where the
 //! attack breaks no rule; which one follows from the rules in docs/IMAGE.md. A *pair* is the `and`
 //! and the `or` that put a register into the data or the code region.
-use super::images::{C_EBREAK, C_NOP, EBREAK, HEAD, SFI1, SFI2, SFIS, SFIW, SINGLE_HEAD, bytes_of};
+use super::images::{
+    C_EBREAK, C_NOP, EBREAK, GATE_HEAD, HEAD, SFI1, SFI2, SFIS, SFIW, SINGLE_HEAD, STUB, bytes_of,
+};
 use sfi_check::{Feed, Refusal, StreamAnswer, check, check_stream};
 use sfi_formats::Format;
 use sfi_image::ReaderSource;
@@ -24,9 +26,11 @@ enum Harm {
     Jump(u32),
     /// Where it is the last instruction of the code region.
     AtEnd,
+    /// At every spot, unless it is the stub: it fills its bundle, and the image lists a gate there.
+    Gate,
 }
 
-use Harm::{Anywhere, AtEnd, FirstFormat, Jump, SecondFormat};
+use Harm::{Anywhere, AtEnd, FirstFormat, Gate, Jump, SecondFormat};
 
 /// Its name, its code as digits, the rule that it breaks, the place of the instruction that does,
 /// in bytes from the code's first one, and at which spots it does.
@@ -67,6 +71,9 @@ struct Spot {
     filler: Filler,
 }
 
+/// The service of an attack's gate, as digits of an image: the exit.
+const EXIT: &str = "00000000";
+
 /// How many bundles of 16 bytes the smallest image's code has.
 const BUNDLES: u32 = 16;
 
@@ -74,6 +81,7 @@ const BUNDLES: u32 = 16;
 /// place of the instruction that breaks it, counted from the code's first byte; the code; and its name, the rest of the row.
 /// x27 or x26 is the second operand of a pair's first or second instruction, x25 or x24 that of a pair for jumps. `c.lwsp`
 /// into x24 to x27 is an access without a pair, too: the lowest rule is told.
+/// A gate's bundle that isn't the stub breaks V9 alone, at its first byte, whatever its instructions break.
 const ATTACKS: &str = "
 anywhere V5 8 b3ffad00b3efaf0123a0bf00 operands of and exchanged
 anywhere V5 8 b37fb501b36ffd0123a0bf00 operands of or exchanged
@@ -106,6 +114,18 @@ anywhere V1 0 1f000000 longer than 32 bits
 anywhere V1 0 0f100000 fence.i
 anywhere V1 0 00000000 no instruction
 end V8 0 13000000 addi at the end
+gate V9 0 73000000b3ff9001b3ef8f0167800f00 stub
+gate V9 0 73001000b3ff9001b3ef8f0167800f00 ebreak of a stub
+gate V9 0 1300000073000000b3ff900167800f00 ecall after a nop of a stub
+gate V9 0 73000000130000001300000067800000 return without a pair
+gate V9 0 73000000b3ff90011300000067800f00 return by half a pair
+gate V9 0 73000000b3ff1c00b3ef8f0167800f00 return by operands of and exchanged
+gate V9 0 73000000b3ffb001b3efaf0167800f00 return into the data
+gate V9 0 73000000b37f9501b3ef8f0167800f00 return to x10
+gate V9 0 73000000b3ff9001b3ef8f0167804f00 return 4 bytes further
+gate V9 0 73000000b3ff9001b3ef8f01e7800f00 return links x1
+gate V9 0 730000002320b5007300100073001000 store at a gate
+gate V9 0 00000000000000000000000000000000 no instruction of a stub
 second V10 0 41110290 c.addi x2, -16
 second V10 0 41610290 c.addi16sp x2, 16
 second V10 8 b37fb501b3efaf0103a10f000290 lw x2
@@ -211,11 +231,12 @@ fn harm_of(word: &str) -> Option<Harm> {
         "first" => Some(FirstFormat),
         "second" => Some(SecondFormat),
         "end" => Some(AtEnd),
+        "gate" => Some(Gate),
         offset => Some(Jump(offset.parse().ok()?)),
     }
 }
 
-/// The rule of that name; `None` where none has it. (V9, for gates, has no attack here.)
+/// The rule of that name; `None` where none has it.
 fn rule_of(word: &str) -> Option<Rule> {
     match word {
         "V1" => Some(Rule::V1),
@@ -226,6 +247,7 @@ fn rule_of(word: &str) -> Option<Rule> {
         "V6" => Some(Rule::V6),
         "V7" => Some(Rule::V7),
         "V8" => Some(Rule::V8),
+        "V9" => Some(Rule::V9),
         "V10" => Some(Rule::V10),
         "V11" => Some(Rule::V11),
         "V12" => Some(Rule::V12),
@@ -253,6 +275,18 @@ fn begins(format: Format, target: u32) -> bool {
     }
 }
 
+/// The address of a bundle where attacks are put, as digits of an image: 16 bytes a bundle from
+/// 01000000 on.
+fn address_of(bundle: u32) -> &'static str {
+    match bundle {
+        0 => "00000001",
+        3 => "30000001",
+        4 => "40000001",
+        7 => "70000001",
+        _ => "f0000001",
+    }
+}
+
 /// Whether an attack is tried from this place of a bundle on, in bytes; in words only where a word
 /// begins.
 fn is_tried(format: Format, place: u32) -> bool {
@@ -276,6 +310,7 @@ impl<'a> Attack<'a> {
                 !begins(format, target) || target >= 16 * BUNDLES
             }
             AtEnd => from.wrapping_add(self.len()) == 16 * BUNDLES,
+            Gate => self.1 != STUB,
         }
     }
 
@@ -306,11 +341,17 @@ impl<'a> Attack<'a> {
             Format::Sfiw => (SFIW, HEAD),
             Format::Sfis => (SFIS, SINGLE_HEAD),
         };
+        let (head, gates) = match self.4 {
+            Gate => (GATE_HEAD, 1),
+            _ => (head, 0),
+        };
         let [filler, rest] = spot.filler.pieces(spot.place);
         let words = spot.bundle.saturating_mul(4);
         let pieces = [
             (magic, 1),
             (head, 1),
+            (address_of(spot.bundle), gates),
+            (EXIT, gates),
             (EBREAK, words as usize),
             filler,
             rest,

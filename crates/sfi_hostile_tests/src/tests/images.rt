@@ -21,6 +21,13 @@ pub(super) const HEAD: &str = "0100000000000001000100000000800100010000000000010
 pub(super) const SINGLE_HEAD: &str =
     "0100000000000001000100000000008000010000000000010000000000000000";
 
+/// `HEAD` with one gate, whose address and service come next.
+pub(super) const GATE_HEAD: &str =
+    "0100000000000001000100000000800100010000000000010100000000000000";
+
+/// The stub that a listed gate's bundle has to be, as docs/IMAGE.md spells it.
+pub(super) const STUB: &str = "73000000b3ff9001b3ef8f0167800f00";
+
 /// `ebreak`. The smallest image's code is 64 of them.
 pub(super) const EBREAK: &str = "73001000";
 
