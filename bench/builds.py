@@ -11,9 +11,13 @@ the seconds of processor time, by the medians of N alternated runs.
 import argparse
 import os
 import random
+import sys
 import tempfile
 
-import measure
+TOP = os.path.dirname(os.path.dirname(os.path.abspath(__file__)))
+sys.dont_write_bytecode = True
+sys.path.insert(0, os.path.join(TOP, "tools"))
+from suygapid.trials import measure
 
 REGISTERS = [f"x{number}" for number in range(5, 24)] + "ra sp t0 t1 t2 a0 a1 a2 a3 a4 a5 a6 a7 s2 s3 s4 s5".split()
 # The form of a statement and its names, and how often it comes.

@@ -11,13 +11,16 @@ import argparse
 import os
 import shutil
 import subprocess
+import sys
 import tempfile
 
-import measure
+TOP = os.path.dirname(os.path.dirname(os.path.abspath(__file__)))
+sys.dont_write_bytecode = True
+sys.path.insert(0, os.path.join(TOP, "tools"))
 import libraries
-from measure import HERE, TOP
+from suygapid.trials import measure
 
-HOST = os.path.join(HERE, "call_prices.c")
+HOST = os.path.join(measure.BENCH, "call_prices.c")
 PLUGIN = os.path.join(TOP, "examples", "native", "library.s")
 WASM = """(module (import "host" "asked" (func $asked (param i32 i32) (result i32)))
   (func (export "add") (param i32 i32) (result i32) (i32.add (local.get 0) (local.get 1)))

@@ -10,10 +10,13 @@ bytes, in both its ways and the first two formats. Then it prints the peak of re
 """
 import argparse
 import os
+import sys
 import tempfile
 
-import measure
-import images
+TOP = os.path.dirname(os.path.dirname(os.path.abspath(__file__)))
+sys.dont_write_bytecode = True
+sys.path.insert(0, os.path.join(TOP, "tools"))
+from suygapid.trials import images, measure
 
 
 def commands_of(program, folder, checker):

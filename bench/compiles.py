@@ -6,21 +6,24 @@
 For each image: its bytes; milliseconds of processor time for `sfi native` on the image's own bytes, the process's start too, the least
 of N runs, and megabytes (10^6) of image a second; x86 instructions for a byte of image, by callgrind; the file's bytes for a byte of
 image, and bytes of code for an instruction, those of the fill at a sandbox's end aside. Random code is 16 sandboxes of 64 KiB, of the kinds
-of bench/images.py, in the first format and in words. Lua is in words, and wants its sources (examples/c/programs.py --fetch lua), and
+of tools/suygapid/trials/images.py, in the first format and in words. Lua is in words, and wants its sources (examples/c/programs.py --fetch lua), and
 sfi-cc's tools.
 """
 import argparse
 import os
 import struct
 import subprocess
+import sys
 import tempfile
 from dataclasses import replace
 
-import measure
-import images
-import programs
+TOP = os.path.dirname(os.path.dirname(os.path.abspath(__file__)))
+sys.dont_write_bytecode = True
+sys.path.insert(0, os.path.join(TOP, "tools"))
 from suygapid.image import layout
 from suygapid.isa.decoding import decode
+from suygapid.kept import root
+from suygapid.trials import images, measure, programs
 
 FRONT, FIELDS, PLACES, ENTRY, ACCESS = 24, 28, 32, 8, 12  # of a file of native code: crates/sfi_native/specs/File.antt
 FILL = b"\x02\x90"  # c.ebreak
@@ -77,7 +80,7 @@ def main():
     parser = argparse.ArgumentParser(description=__doc__, formatter_class=argparse.RawDescriptionHelpFormatter)
     parser.add_argument("--program", default=measure.PROGRAM)
     parser.add_argument("--rounds", type=int, default=5)
-    parser.add_argument("--sources", default=os.path.join(programs.root(), "sources"))
+    parser.add_argument("--sources", default=os.path.join(root(), "sources"))
     given = parser.parse_args()
     given.program, given.fetch, given.given = measure.program_at(given.program), False, []
     print("| image | bytes | ms | MB/s | instructions a byte | bytes of file a byte | bytes of code an instruction |\n|---|---|---|---|---|---|---|")

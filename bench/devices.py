@@ -9,14 +9,16 @@ It wants what examples/device wants. Instructions are QEMU's, of `virt`.
 import argparse
 import os
 import subprocess
+import sys
 import tempfile
 
-import measure  # by which the others find theirs
-
-import images
+TOP = os.path.dirname(os.path.dirname(os.path.abspath(__file__)))
+sys.dont_write_bytecode = True
+sys.path.insert(0, os.path.join(TOP, "tools"))
 import worst_verdict
+from suygapid.trials import images, measure
 
-DEVICE = os.path.join(measure.TOP, "examples", "device")
+DEVICE = os.path.join(TOP, "examples", "device")
 
 
 def run(*words, **how):
@@ -32,7 +34,7 @@ def host_bytes(folder, *words):
 
 def print_checker(library, folder):
     """A row: bytes, and instructions for mixed code of each format; and the longest verdicts."""
-    run(os.path.join(measure.TOP, "device", "checker.sh"), library, folder)
+    run(os.path.join(TOP, "device", "checker.sh"), library, folder)
     checker = os.path.join(folder, "checker.o")
     added = host_bytes(folder, f"CHECKER={checker}") - host_bytes(folder)
     judge = worst_verdict.Judge(checker, folder)

@@ -19,15 +19,18 @@ import time
 from dataclasses import replace
 from itertools import groupby
 
-import measure
-import programs
-from compiled import EXAMPLES, mean
-from translated import NATIVE_TURNS, TURNS, by_native_code, native_console
+TOP = os.path.dirname(os.path.dirname(os.path.abspath(__file__)))
+sys.dont_write_bytecode = True
+sys.path.insert(0, os.path.join(TOP, "tools"))
 from suygapid import native
-
+from suygapid.kept import root
+from suygapid.trials import measure, programs
+from suygapid.trials.compiled import EXAMPLES, mean
+from testing import FORMATS
+from translated import NATIVE_TURNS, TURNS, by_native_code, native_console
 
 WAYS = ("native", "run")
-FOLDERS = (os.path.join(EXAMPLES, "programs"), os.path.join(measure.HERE, "longer"))
+FOLDERS = (os.path.join(EXAMPLES, "programs"), os.path.join(measure.BENCH, "longer"))
 
 
 def lua_image(given, folder):
@@ -81,8 +84,8 @@ def main():
     parser = argparse.ArgumentParser(description=__doc__, formatter_class=argparse.RawDescriptionHelpFormatter)
     parser.add_argument("scripts", nargs="*", default=[path for folder in FOLDERS for path in sorted(glob.glob(os.path.join(folder, "*.lua")))])
     parser.add_argument("--program", default=measure.PROGRAM)
-    parser.add_argument("--sources", default=os.path.join(programs.root(), "sources"))
-    parser.add_argument("--format", choices=programs.FORMATS, default="words")
+    parser.add_argument("--sources", default=os.path.join(root(), "sources"))
+    parser.add_argument("--format", choices=FORMATS, default="words")
     parser.add_argument("--heap", type=int, default=400000)
     parser.add_argument("--rounds", type=int, default=9)
     parser.add_argument("--way", action="append", choices=WAYS)

@@ -32,15 +32,14 @@ import sys
 import tempfile
 import time
 
-import measure
-import images
-import odd_images
-
+TOP = os.path.dirname(os.path.dirname(os.path.abspath(__file__)))
+sys.dont_write_bytecode = True
+sys.path.insert(0, os.path.join(TOP, "tools"))
 import libraries
+import testing
+from suygapid.trials import images, measure, odd_images
 
-TOP = os.path.dirname(measure.HERE)
 LIBRARY = os.path.join(TOP, "crates", "sfi_c", "out", "libsfi_c.a")
-
 CORPUS = os.path.join(TOP, "tools", "sfi-corpus")
 
 # The words of each are the folder, the number at a time, and the program.
@@ -114,14 +113,6 @@ def compare(program, pool, folders, jobs):
         if not expected or len(expected) != len(found) or differ:
             sys.exit(f"bench: {len(expected)} and {len(found)} records, of which {len(differ)} differ: {differ[:3]}")
         print(f"{len(expected)} images have the same status and verdict in both ways; by status: {counts}", flush=True)
-
-
-def with_dask():
-    """A Python that has Dask's distributed, or None."""
-    for python in (sys.executable, "/usr/bin/python3"):
-        if shutil.which(python) and subprocess.run([python, "-c", "import distributed"], capture_output=True, check=False).returncode == 0:
-            return python
-    return None
 
 
 @contextlib.contextmanager
@@ -224,7 +215,7 @@ def main():
             write_images(first, compared, options.code)
             write_odd_images(odd, compared)
             compare(program, pool, [first, odd], options.jobs)
-        python = with_dask()
+        python = testing.with_dask()
         if not python:
             print("skipped: workers of Dask: no Python has its distributed (python3-distributed)")
         with contextlib.ExitStack() as stack:

@@ -12,13 +12,16 @@ loader's lines of all formats must be those of `sfi run`, steps included, and al
 import argparse
 import os
 import subprocess
+import sys
 import tempfile
 
-import compiled
-import measure
+TOP = os.path.dirname(os.path.dirname(os.path.abspath(__file__)))
+sys.dont_write_bytecode = True
+sys.path.insert(0, os.path.join(TOP, "tools"))
+from suygapid.trials import compiled, measure
 
 FORMATS = {it: title for it, title in compiled.FORMATS.items() if it != compiled.SINGLE}  # that the loader takes
-LOADER = os.path.join(os.path.dirname(measure.HERE), "examples", "device", "run.sh")
+LOADER = os.path.join(TOP, "examples", "device", "run.sh")
 
 
 def natively(path, words, program, *options):

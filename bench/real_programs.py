@@ -13,21 +13,24 @@ import glob
 import os
 import resource
 import subprocess
+import sys
 import tempfile
 import time
 from concurrent.futures import ThreadPoolExecutor
 from typing import NamedTuple
 
-import compiled
-import measure
-import programs
-from compiled import DATA_SIZE, RUNTIME, TOOLS, Count, answer, image, mean, power_above, section
+TOP = os.path.dirname(os.path.dirname(os.path.abspath(__file__)))
+sys.dont_write_bytecode = True
+sys.path.insert(0, os.path.join(TOP, "tools"))
 from suygapid.cc.compilers import GCC, compiled as compiled_to
 from suygapid.commands.options import size as size_of
 from suygapid.elf.runtime import OVERRIDDEN
 from suygapid.kept import kept, root
 from suygapid.library.newlib import folder_of
 from suygapid.passes.typed import USUAL
+from suygapid.trials import compiled, measure, programs
+from suygapid.trials.compiled import DATA_SIZE, RUNTIME, SFI_CC, TOOLS, Count, answer, image, mean, power_above, section
+from testing import FORMATS
 
 PRICED = ("lua", "bzip2", "zlib", "cjson")
 BUILT = ("lua", "mujs", "zstd", "sqlite")
@@ -154,7 +157,7 @@ def make_libraries(image_format, folder):
     """Has sfi-cc make and keep what it makes once: the library, and the functions of floating point."""
     file = measure.written(os.path.join(folder, "floating.c"), b"#include <stdio.h>\nint main(int n) { return printf(\"%f\", n * 0.3); }\n")
     output = os.path.join(folder, "floating.elf")
-    subprocess.run([programs.SFI_CC, "--format", image_format, "--library", "newlib", "-o", output, file], check=True)
+    subprocess.run([SFI_CC, "--format", image_format, "--library", "newlib", "-o", output, file], check=True)
 
 
 def built(name, options, folder):
@@ -196,7 +199,7 @@ def main():
     parser.add_argument("names", nargs="*")
     parser.add_argument("--builds", action="store_true")
     parser.add_argument("--program", default=measure.PROGRAM)
-    parser.add_argument("--format", action="append", choices=programs.FORMATS)
+    parser.add_argument("--format", action="append", choices=FORMATS)
     parser.add_argument("--sources", default=os.path.join(root(), "sources"))
     options, options_given = parser.parse_known_args()
     options.given, options.fetch, options.format = options_given, False, options.format or [USUAL]

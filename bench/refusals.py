@@ -16,11 +16,11 @@ import subprocess
 import sys
 import tempfile
 
-import measure
-
-TOP = os.path.dirname(measure.HERE)
-sys.path.append(os.path.join(TOP, "tools"))
+TOP = os.path.dirname(os.path.dirname(os.path.abspath(__file__)))
+sys.dont_write_bytecode = True
+sys.path.insert(0, os.path.join(TOP, "tools"))
 import testing
+from suygapid.trials import measure
 
 EXAMPLES = os.path.join(TOP, "examples")
 TABLE = os.path.join(TOP, "crates", "sfi_hostile_tests", "src", "tests", "commands.rt")
@@ -44,21 +44,16 @@ def refused_in_turn(words, text, library):
         ends.append((status, output))
 
 
-def read(path):
-    with open(path, "rb") as file:
-        return file.read()
-
-
 def listed():
     """The commands of the table, each with the name of what it reads."""
-    return [(line.split(), name) for line, name in re.findall(r"^= sfi (.*?) \| (.*?) \|", read(TABLE).decode(), re.MULTILINE)]
+    return [(line.split(), name) for line, name in re.findall(r"^= sfi (.*?) \| (.*?) \|", measure.contents(TABLE).decode(), re.MULTILINE)]
 
 
 def commands(program):
     """Command lines, and what they read."""
-    source = read(os.path.join(EXAMPLES, "hi.s"))
+    source = measure.contents(os.path.join(EXAMPLES, "hi.s"))
     image = done([program, "build"], source)[1]
-    smallest = read(os.path.join(EXAMPLES, "smallest.hex"))
+    smallest = measure.contents(os.path.join(EXAMPLES, "smallest.hex"))
     raw = bytes.fromhex(image.decode())
     bare = image.replace(b"b37fb501", b"13000000")
     two = done([program, "build"], b".sandbox 256\nebreak\n" + source)[1]

@@ -20,12 +20,14 @@ The last row has the geometric means. It ends where lines differ, whole or after
 import argparse
 import os
 import re
+import sys
 import tempfile
 from dataclasses import dataclass
 
-import measure
-import compiled
-import images
+TOP = os.path.dirname(os.path.dirname(os.path.abspath(__file__)))
+sys.dont_write_bytecode = True
+sys.path.insert(0, os.path.join(TOP, "tools"))
+from suygapid.trials import compiled, images, measure
 
 NAMES = ["compute", "memory", "mixed"]
 SANDBOXES = [1, 16]
@@ -49,7 +51,7 @@ def commands(program, interpreter, steps, sandboxes=1):
 
 def build(program, name, sandboxes, folder):
     """The path of the image of a source whose text is repeated for each of the sandboxes."""
-    with open(os.path.join(measure.HERE, name + ".s"), "rb") as source:
+    with open(os.path.join(measure.BENCH, name + ".s"), "rb") as source:
         text = measure.written(os.path.join(folder, name + ".s"), source.read() * sandboxes)
     image, _ = measure.run([program, "build"], text)
     return measure.written(os.path.join(folder, name + ".hex"), image.encode())

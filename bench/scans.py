@@ -15,12 +15,15 @@ import argparse
 import os
 import re
 import subprocess
+import sys
 import tempfile
 
-import measure
-import images
+TOP = os.path.dirname(os.path.dirname(os.path.abspath(__file__)))
+sys.dont_write_bytecode = True
+sys.path.insert(0, os.path.join(TOP, "tools"))
+from suygapid.trials import images, measure
 
-LIBRARY = os.path.join(os.path.dirname(measure.HERE), "crates", "sfi_c")
+LIBRARY = os.path.join(TOP, "crates", "sfi_c")
 REPEATS = 10
 GROUPS = 5  # scan.c and checker.c print the best of this number of groups
 BUNDLES = 65536
@@ -31,7 +34,7 @@ def node_with(path, image):
     """The words that run the module in node, which wants an option for memories of 64 bits as long as they are an experiment."""
     option = "--experimental-wasm-memory64"
     known = subprocess.run(["node", option, "-e", "0"], stderr=subprocess.DEVNULL, check=False).returncode == 0
-    return ["node", *[option] * known, os.path.join(measure.HERE, "scan.mjs"), path, image]
+    return ["node", *[option] * known, os.path.join(measure.BENCH, "scan.mjs"), path, image]
 
 
 def commands_of(folder, checker, module):
@@ -39,7 +42,7 @@ def commands_of(folder, checker, module):
     options = ["-I" + os.path.join(LIBRARY, "include")]
     library = os.path.join(LIBRARY, "out", "libsfi_c.a")
     scan = os.path.join(folder, "scan")
-    subprocess.run(["gcc", "-O2", *options, os.path.join(measure.HERE, "scan.c"), library, "-o", scan], check=True)
+    subprocess.run(["gcc", "-O2", *options, os.path.join(measure.BENCH, "scan.c"), library, "-o", scan], check=True)
     programs = {"library": [scan]}
     for name, path in measure.checkers(checker, folder).items():
         programs[name] = [path, "--bench"]

@@ -9,12 +9,15 @@ times are the least of five differences of two runs; the memory is what one inst
 """
 import argparse
 import os
+import sys
 import tempfile
 
-import measure
+TOP = os.path.dirname(os.path.dirname(os.path.abspath(__file__)))
+sys.dont_write_bytecode = True
+sys.path.insert(0, os.path.join(TOP, "tools"))
 import libraries
-from measure import HERE, TOP
 from suygapid.image.layout import MAGICS, WORDS, Part, spelled
+from suygapid.trials import measure
 from world_counts import run
 
 SIZES = [1, 16, 256, 1024]
@@ -34,7 +37,7 @@ class Host:
         self.host, self.folder = os.path.join(folder, "worlds"), folder
         static, _ = libraries.make("sfi_run", library, folder)
         includes = [f"-I{TOP}/crates/{crate}/include" for crate in ("sfi_run", "sfi_c")]
-        run("gcc", "-O2", *includes, os.path.join(HERE, "world_counts.c"), static, "-o", self.host)
+        run("gcc", "-O2", *includes, os.path.join(measure.BENCH, "world_counts.c"), static, "-o", self.host)
         for size in SIZES:
             measure.written(self.image(size), image(size, at))
 

@@ -16,13 +16,15 @@ import os
 import re
 import shutil
 import subprocess
+import sys
 import tempfile
 
-import compiled
-import measure
-from compiled import CASES, EXAMPLES, SFI_CC, mean
-
+TOP = os.path.dirname(os.path.dirname(os.path.abspath(__file__)))
+sys.dont_write_bytecode = True
+sys.path.insert(0, os.path.join(TOP, "tools"))
 import libraries
+from suygapid.trials import compiled, measure
+from suygapid.trials.compiled import CASES, EXAMPLES, SFI_CC, mean
 
 TIMES = {"crc32": 16000, "sha256": 8000, "sort": 5000, "wordcount": 20000, "stack": 1200, "arithmetic": 1000, "json": 30000, "base64": 12000,
          "lz": 4000, "hash": 5000, "matrix": 250, "regex": 4500, "sha": 30000, "sort_kernel": 250, "matrix_kernel": 1500, "sieve": 900}
@@ -30,7 +32,7 @@ KERNELS = {"sha": "sha", "sort_kernel": "sort", "matrix_kernel": "matrix", "siev
 FORMATS = ("2", "words")
 NATIVE_TURNS = ["10000", "1000000"]
 TURNS = ["--rounds", NATIVE_TURNS[0], "--quantum", NATIVE_TURNS[1]]
-INCLUDE = os.path.join(compiled.TOP, "crates/sfi_translate/include")
+INCLUDE = os.path.join(TOP, "crates/sfi_translate/include")
 WASM = ["--target=wasm32", "-O2", "-mbulk-memory", "-nostdlib", "-DRUN_ALONE", "-Dmain=run", "-Wl,--no-entry,--export=run"]
 # What clang has no instruction for, of the C library's functions that the programs call.
 WASM_LIBRARY = """
@@ -86,11 +88,11 @@ def sources(name, folder, divisor=1):
     """The options and files of a program."""
     times = [f"-DTIMES={TIMES[name] // divisor}"]
     if name in KERNELS:
-        return [*times, f"-DKERNEL={KERNELS[name]}", os.path.join(measure.HERE, "kernels.c")]
+        return [*times, f"-DKERNEL={KERNELS[name]}", os.path.join(measure.BENCH, "kernels.c")]
     given = bytes.fromhex(compiled.digits_of_case(name))
     listed = measure.written(os.path.join(folder, "input.inc"), ",".join(map(str, given + b"\0")).encode())
     renamed = ["-Dget=given", "-Dput=taken", "-I", EXAMPLES]
-    return [*times, *renamed, f'-DINPUT="{listed}"', os.path.join(folder, "program.c"), os.path.join(measure.HERE, "repeat.c")]
+    return [*times, *renamed, f'-DINPUT="{listed}"', os.path.join(folder, "program.c"), os.path.join(measure.BENCH, "repeat.c")]
 
 
 def native(folder, options):
@@ -151,9 +153,9 @@ def translated(program, image_format, folder, options):
 def native_console(folder):
     """The path of the console that runs native code."""
     archive, _ = libraries.make_native()
-    included = [f"-I{os.path.join(compiled.TOP, 'crates', it, 'include')}" for it in ("sfi_run", "sfi_c")]
+    included = [f"-I{os.path.join(TOP, 'crates', it, 'include')}" for it in ("sfi_run", "sfi_c")]
     path = os.path.join(folder, "native_console")
-    call("gcc", "-O2", *included, os.path.join(compiled.TOP, "examples/run/console.c"), archive, "-o", path)
+    call("gcc", "-O2", *included, os.path.join(TOP, "examples/run/console.c"), archive, "-o", path)
     return path
 
 

@@ -13,10 +13,10 @@ import subprocess
 import sys
 import tempfile
 
-import measure
-
-import compiled
-import word_rules
+TOP = os.path.dirname(os.path.dirname(os.path.abspath(__file__)))
+sys.dont_write_bytecode = True
+sys.path.insert(0, os.path.join(TOP, "tools"))
+from suygapid.trials import compiled, measure, word_rules
 
 # sfi-cc and asm2elf whose passes find no step that needs no masks.
 CC = """
@@ -44,7 +44,7 @@ def image_of(name, way, folder):
     if is_masked:
         asm2elf = measure.written(os.path.join(folder, "asm2elf.py"), ASM2ELF.encode())
         command = [sys.executable, "-c", CC, asm2elf]
-        more = {"PYTHONPATH": os.path.join(compiled.TOP, "tools"), "XDG_CACHE_HOME": folder}
+        more = {"PYTHONPATH": os.path.join(TOP, "tools"), "XDG_CACHE_HOME": folder}
     made = subprocess.run([*command, "--format", image_format, assembly], stdout=subprocess.PIPE, check=True,
                           env={**os.environ, **more})
     return bytes.fromhex(made.stdout.decode())

@@ -14,11 +14,14 @@ import argparse
 import os
 import shutil
 import subprocess
+import sys
 import tempfile
 
-import measure
+TOP = os.path.dirname(os.path.dirname(os.path.abspath(__file__)))
+sys.dont_write_bytecode = True
+sys.path.insert(0, os.path.join(TOP, "tools"))
 import libraries
-from measure import HERE, TOP
+from suygapid.trials import measure
 
 CODE, DATA = 65536, 65536
 SOURCES = {
@@ -52,7 +55,7 @@ class Host:
         self.folder = folder
         static, _ = libraries.make("sfi_run", library, folder)
         includes = [f"-I{TOP}/crates/{crate}/include" for crate in ("sfi_run", "sfi_c")]
-        run("gcc", "-O2", *includes, os.path.join(HERE, "world_counts.c"), static, "-o", self.host)
+        run("gcc", "-O2", *includes, os.path.join(measure.BENCH, "world_counts.c"), static, "-o", self.host)
         for name, source in SOURCES.items():
             measure.written(self.image(name), bytes.fromhex(run(program, "build", given=source).stdout))
 
@@ -86,7 +89,7 @@ class Host:
 
 def node(module, what, times):
     """What node takes for one of what host_calls.mjs measures, or how many bytes."""
-    return float(run("node", "--expose-gc", os.path.join(HERE, "host_calls.mjs"), module, what, times).stdout)
+    return float(run("node", "--expose-gc", os.path.join(measure.BENCH, "host_calls.mjs"), module, what, times).stdout)
 
 
 def print_peers(host):

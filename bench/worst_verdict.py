@@ -18,12 +18,15 @@ import pathlib
 import random
 import struct
 import subprocess
+import sys
 import tempfile
 
-import measure
-import images
+TOP = os.path.dirname(os.path.dirname(os.path.abspath(__file__)))
+sys.dont_write_bytecode = True
+sys.path.insert(0, os.path.join(TOP, "tools"))
 from suygapid.image.layout import FORMATS, Part, spelled
 from suygapid.isa.encoding import i_type, r_type, s_type
+from suygapid.trials import images, measure
 
 HERE = pathlib.Path(__file__).resolve().parent
 KEPT = HERE / "worst_verdict.txt"

@@ -7,22 +7,19 @@ Each case is the life of a world of libsfi_run: modules of the examples, in the 
 and its sandboxes are removed, in any order; meanwhile they get turns, also up to addresses, replies, exits, callbacks, registers,
 entries, stops, resets, reads and writes. Each sandbox has a twin in a world of its own, which gets the same calls. After each
 call the answers have to be the same, and of each sandbox the event, steps, registers, and data. What an add answers is as the regions
-say. --library is a libsfi_run.a that rt built, or a shared library; with `--library model` the shared world is one of fuzz/worlds.py,
-as the twins are, to try the script itself, and `--plant FAULT` gives it a fault: then it has to fail. It wants gcc.
+say. --library is a libsfi_run.a that rt built, or a shared library; with `--library model` the shared world is one of its model
+(tools/suygapid/trials/worlds.py), as the twins are, to try the script itself, and `--plant FAULT` gives it a fault: then it has to fail. It wants gcc.
 """
 import faulthandler
 import os
 import sys
 import tempfile
 
-import fuzzing
-import calls
-import corpus
-import verdicts
-import worlds
-
-import measure
+TOP = os.path.dirname(os.path.dirname(os.path.abspath(__file__)))
+sys.dont_write_bytecode = True
+sys.path.insert(0, os.path.join(TOP, "tools"))
 from suygapid.image import layout
+from suygapid.trials import corpus, fuzzing, lives, measure, verdicts, worlds
 
 CALLS_OF_A_WORLD = 80
 MODULES = 6  # of a world
@@ -236,7 +233,7 @@ def images_of(program):
 
 def main(words=None):
     parser = fuzzing.options(__doc__, 20)
-    parser.add_argument("--library", default=calls.LIBRARY)
+    parser.add_argument("--library", default=worlds.LIBRARY)
     parser.add_argument("--plant", choices=sorted(worlds.PLANTS_BESIDE), help="give the shared model this fault")
     given = parser.parse_args(words)
     if not fuzzing.has_gcc():
@@ -247,7 +244,7 @@ def main(words=None):
     with tempfile.TemporaryDirectory() as folder:
         judge = verdicts.Judge(folder)
         shared = worlds.PLANTS_BESIDE.get(given.plant, worlds.Model)
-        new_twin_world, _, why = calls.open_library(given.library, folder, lambda: worlds.Model(judge))
+        new_twin_world, _, why = lives.open_library(given.library, folder, lambda: worlds.Model(judge))
         if why:
             return fuzzing.all_skipped(len(NAMES), "worlds with sandboxes that come and go", why)
         tally = fuzzing.tally_of(parser, given, NAMES)

@@ -6,17 +6,17 @@
 Each case is an image in one of the four formats (of odd code, or an accepted one with changes), given as text of random
 spelling, now and then with a wrong digit, or as its bytes, to a command with random options, or to words that are no
 command. Compared are the status, the verdict with its first finding, and the report. What is expected comes from
-bench/checker.c, bench/word_rules.py and tools/suygapid/image/layout.py. `--plant V5` leaves rule V5 out of these: then it has to fail.
+bench/checker.c, and tools/suygapid/trials/word_rules.py and image/layout.py. `--plant V5` leaves rule V5 out of these: then it has to fail.
 It wants gcc.
 """
+import os
 import sys
 import tempfile
 
-import fuzzing
-import corpus
-import verdicts
-
-import measure
+TOP = os.path.dirname(os.path.dirname(os.path.abspath(__file__)))
+sys.dont_write_bytecode = True
+sys.path.insert(0, os.path.join(TOP, "tools"))
+from suygapid.trials import corpus, fuzzing, measure, verdicts
 
 SPACES = " \t\r\n"
 MAGICS = (b"SFI1", b"SFI2", b"SFIW", b"SFIS")

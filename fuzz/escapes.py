@@ -5,32 +5,29 @@
 
 Each case is an image in one of the four formats that `sfi check` accepts: random code in which findings were mended until there
 was none, or an accepted image with changes. Each sandbox is entered at random places with random registers, as far as its format
-allows, and run by fuzz/machine.py on data of addresses and random bytes; others change data at random, and a host's reply changes
+allows, and run by machine.py of tools/suygapid/trials on data of addresses and random bytes; others change data at random, and a host's reply changes
 all registers that it may. No run may leave the code, reach what is no instruction, call at no gate, write a reserved register, or
 access anything but the data and the guard zones (with single masks also that at zero), where it traps. In half of the runs the result of each computation but and, or
 and addi, and whether a branch is taken, is random: no rule knows of these. `--plant V5` takes images that break rule V5 alone:
 then it has to find an escape.
 """
 import functools
+import os
 import struct
 import sys
 
-import fuzzing
-import corpus
-import machine
-
-import measure
-import odd_images
-import odd_words
-import word_rules
+TOP = os.path.dirname(os.path.dirname(os.path.abspath(__file__)))
+sys.dont_write_bytecode = True
+sys.path.insert(0, os.path.join(TOP, "tools"))
 from suygapid.image import layout
 from suygapid.isa.decoding import LOADS, WIDTHS
+from suygapid.trials import corpus, fuzzing, machine, measure, odd_images, odd_words
+from suygapid.trials.worlds import DATA_REGISTERS
 
 IN_FORMAT = {1: "in the first format", 2: "in the second format", 3: "in words", 4: "with single masks"}
 NAMES = [f"{what} {it}" for what in ("verdicts of images", "runs") for it in IN_FORMAT.values()]
 MOST_ENTRIES, STEPS, NEAR, MASK = 64, 150, 1020, 0xFFFFFFFF
 FIRST_RESERVED = 24
-DATA_REGISTERS = {layout.WORDS: word_rules.WORDS.data_registers, layout.SINGLE: word_rules.SINGLE.data_registers}
 KNOWN = ("and", "or", "addi")  # the computations whose results the rules count on
 
 

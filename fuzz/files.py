@@ -18,9 +18,10 @@ import tempfile
 import threading
 from dataclasses import dataclass, field
 
-import fuzzing
-
-sys.path.insert(0, os.path.join(fuzzing.TOP, "bindings", "python"))
+TOP = os.path.dirname(os.path.dirname(os.path.abspath(__file__)))
+sys.dont_write_bytecode = True
+sys.path.insert(0, os.path.join(TOP, "tools"))
+from suygapid.trials import fuzzing
 from sfi_run import OutsideData, Region, _folders, _use, files
 
 SECRET = b"what no sandbox may read"
@@ -99,10 +100,10 @@ class InC:
 
     @classmethod
     def compile(cls, folder):
-        path, top = os.path.join(folder, "host.so"), fuzzing.TOP
+        path = os.path.join(folder, "host.so")
         words = ["-std=c11", "-O2", "-shared", "-fPIC", "-fsanitize=undefined", "-fsanitize-undefined-trap-on-error"]
-        words += [f"-I{top}/crates/{it}/include" for it in ("sfi_run", "sfi_c")]
-        subprocess.run(["gcc", *words, "-o", path, os.path.join(top, "fuzz", "files_host.c")], check=True)
+        words += [f"-I{TOP}/crates/{it}/include" for it in ("sfi_run", "sfi_c")]
+        subprocess.run(["gcc", *words, "-o", path, os.path.join(TOP, "fuzz", "files_host.c")], check=True)
         cls.library = ctypes.CDLL(path)
         cls.library.host_call.restype = ctypes.c_uint32
 

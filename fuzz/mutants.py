@@ -6,7 +6,7 @@ changed.
 
 Each case is an image of the examples, or a small one of random code, in one of the four formats, with changes. Every command
 gets it: none may crash, and each has to end in the status that README.md has for it. The verdict has to be the one that
-bench/checker.c, bench/word_rules.py and tools/suygapid/image/layout.py give; `check`, `check --raw` and `check --report` have to agree; what
+bench/checker.c, and tools/suygapid/trials/word_rules.py and image/layout.py give; `check`, `check --raw` and `check --report` have to agree; what
 is accepted is run as bench/interpreter.c runs it, and of the first format converted to an image that is accepted, too; what
 isn't is refused by `run` and `convert`, and listed where it is an image. `--plant V5` leaves rule V5 out of the expected
 verdicts: then it has to fail. It wants gcc.
@@ -15,12 +15,11 @@ import os
 import sys
 import tempfile
 
-import fuzzing
-import corpus
-import verdicts
-
-import measure
+TOP = os.path.dirname(os.path.dirname(os.path.abspath(__file__)))
+sys.dont_write_bytecode = True
+sys.path.insert(0, os.path.join(TOP, "tools"))
 from suygapid.image import layout
+from suygapid.trials import corpus, fuzzing, measure, verdicts
 
 NAMES = ["statuses", "check", "check --raw", "check --report", "the report", "the layout by checker.c", "dis", "run",
          "run of what is accepted", "run --report", "convert", "what is converted"]

@@ -18,18 +18,12 @@ import sys
 import tempfile
 import traceback
 
-import fuzzing
+TOP = os.path.dirname(os.path.dirname(os.path.abspath(__file__)))
+sys.dont_write_bytecode = True
+sys.path.insert(0, os.path.join(TOP, "tools"))
 import beside
-import calls
-import corpus
-import natively
-import verdicts
-import worlds
-
-sys.path += [os.path.join(fuzzing.TOP, "examples", it) for it in ("native", "translate")]
-import guarded
-import measure
 from suygapid.image import layout
+from suygapid.trials import corpus, fuzzing, guarded, lives, measure, natively, verdicts, worlds
 
 KINDS = dict(turn=30, reply=20, write=8, enter=8, set_registers=6, call_back=5, call=4, stop=3, until=2, exit=2, reset=2, read=2)
 FORMATS = {1: "images in the first format", 2: "images in the second format", 3: "images in words", layout.SINGLE: "images with single masks"}
@@ -118,7 +112,7 @@ class Images:
         if choice < 0.6:
             return guarded.edges(pick, self.program, pick.choice(list(guarded.FORMATS)))
         if choice < 0.85:
-            return corpus.repaired(calls.findings_by(self.judge), corpus.odd(pick))
+            return corpus.repaired(lives.findings_by(self.judge), corpus.odd(pick))
         return corpus.mutant(pick, corpus.accepted(pick, self.program), tuple(corpus.CODE_CHANGES))
 
     def make(self, pick):
@@ -215,7 +209,7 @@ def in_child(work):
 
 def main(words=None):
     parser = fuzzing.options(__doc__, 150)
-    parser.add_argument("--library", default=calls.LIBRARY)
+    parser.add_argument("--library", default=worlds.LIBRARY)
     parser.add_argument("--commands", default=natively.COMMANDS)
     parser.add_argument("--plant", action="store_true", help="run the code of an image with another instruction")
     given = parser.parse_args(words)

@@ -18,19 +18,17 @@ import sys
 import tempfile
 from concurrent.futures import ThreadPoolExecutor
 
-import fuzzing
+TOP = os.path.dirname(os.path.dirname(os.path.abspath(__file__)))
+sys.dont_write_bytecode = True
+sys.path.insert(0, os.path.join(TOP, "tools"))
 import beside
-import calls
-import verdicts
-import worlds
-
 import libraries
-import measure
 import runtime_file
 import testing
+from suygapid.trials import fuzzing, lives, measure, verdicts, worlds
 
-FILE = os.path.join(fuzzing.TOP, "crates", "sfi_run", "out", "suygapid_run.c")
-PLAYER = os.path.join(fuzzing.TOP, "fuzz", "player.c")
+FILE = os.path.join(TOP, "crates", "sfi_run", "out", "suygapid_run.c")
+PLAYER = os.path.join(TOP, "fuzz", "player.c")
 # In the order of enum kind of player.c.
 KINDS = """image look load module module_free instance add remove free move count turn until event reply exit stop reset read write enter
 call call_back set_registers steps registers region version""".split()
@@ -149,7 +147,7 @@ class Cases:
     def __init__(self, library, program, folder):
         judge = verdicts.Judge(folder)
         self.library, self.model = library, lambda: worlds.Model(judge)
-        self.images, self.images_beside = calls.image_maker(program, judge), beside.images_of(program)
+        self.images, self.images_beside = lives.image_maker(program, judge), beside.images_of(program)
         self.trace, self.ends, self.tally = Trace(), [], fuzzing.Tally()
         self.trace.put("version", 0, 0)
 
@@ -157,7 +155,7 @@ class Cases:
         return Traced(worlds.Library(self.library), self.trace)
 
     def live(self, case, pick):
-        calls.World(pick, self.images, self.world(), self.model(), self.tally).live()
+        lives.World(pick, self.images, self.world(), self.model(), self.tally).live()
         beside.Beside(pick, self.images_beside, self.world(), self.world, self.tally).live()
         for number in range(MODULES):
             self.trace.put("module_free", number, 0)
@@ -234,7 +232,7 @@ class Players:
 
 def main(words=None):
     parser = fuzzing.options(__doc__, 8)
-    parser.add_argument("--library", default=calls.LIBRARY)
+    parser.add_argument("--library", default=worlds.LIBRARY)
     parser.add_argument("--file", default=FILE)
     parser.add_argument("--all", action="store_true", help="by all compilers")
     given = parser.parse_args(words)

@@ -17,12 +17,15 @@ import subprocess
 import sys
 import tempfile
 
-import fuzzing
+TOP = os.path.dirname(os.path.dirname(os.path.abspath(__file__)))
+sys.dont_write_bytecode = True
+sys.path.insert(0, os.path.join(TOP, "tools"))
+from suygapid.trials import fuzzing
 
-CRATES = os.path.join(fuzzing.TOP, "crates")
+CRATES = os.path.join(TOP, "crates")
 LIBRARY = os.path.join(CRATES, "x86_trial", "out", "libx86_trial.a")
 HEAP = os.path.join(CRATES, "sfi_run", "c", "heap.c")
-SOURCE = os.path.join(fuzzing.TOP, "fuzz", "processor.c")
+SOURCE = os.path.join(TOP, "fuzz", "processor.c")
 CASES, PLANTED_CASES = 1000000, 20000
 ALU = ["add", "or", "and", "sub", "xor", "cmp"]
 SHIFTS = ["shl", "shr", "sar"]

@@ -19,19 +19,16 @@ import struct
 import sys
 import tempfile
 
-import fuzzing
+TOP = os.path.dirname(os.path.dirname(os.path.abspath(__file__)))
+sys.dont_write_bytecode = True
+sys.path.insert(0, os.path.join(TOP, "tools"))
 import commands
-import corpus
-
-import images
-import measure
-import odd_images
-import odd_words
 import second_checker
 import testing
+from suygapid.trials import corpus, fuzzing, images, measure, odd_images, odd_words
 
 TEXTS, BYTES, FAULTS = "check --report", "check --raw", "text with a fault"
-EXAMPLES, LARGE, KINDS = "examples", "large images", "the kinds of bench/images.py are accepted"
+EXAMPLES, LARGE, KINDS = "examples", "large images", "the kinds of images.py are accepted"
 VERDICTS, FINDINGS, WAYS = "verdicts in C", "findings in C", "both ways in C"
 IN_C = [VERDICTS, FINDINGS, WAYS]
 NAMES = [TEXTS, BYTES, FAULTS, EXAMPLES, LARGE, KINDS]

@@ -7,11 +7,11 @@ import struct
 import subprocess
 import unittest
 
-import corpus
 import checker_file
 import second_checker
 import testing
 from suygapid.image import layout
+from suygapid.trials import corpus
 
 COMPILERS = [it for it in ("gcc", "clang") if shutil.which(it)]
 MUTANTS = 1000

@@ -11,27 +11,20 @@ import sys
 import tempfile
 import unittest
 
-import fuzzing
 import beside
 import calls
 import commands
-import corpus
 import escapes
 import files
 import mutants
 import native_code
-import natively
 import ports
 import second
-import verdicts
-import worlds
-
-import images
-import measure
 import second_decoder
 import testing
 from suygapid.image import layout
 from suygapid.isa import decoding
+from suygapid.trials import corpus, fuzzing, images, lives, measure, natively, verdicts, worlds
 
 MOST = 600  # cases in which a planted fault has to be found
 needs_gcc = testing.needs("gcc")
@@ -135,7 +128,7 @@ class Planted(testing.Folder):
 
     @testing.needs_program
     def test_escapes_are_found_without_a_rule(self):
-        findings = calls.findings_by(verdicts.Judge(self.folder))
+        findings = lives.findings_by(verdicts.Judge(self.folder))
         pairs = [(rule, format) for format, rules in verdicts.NAMES.items() for rule in rules]
         for rule, format in testing.by_turns(pairs, -(-len(pairs) // 3)):
             self.found_without(rule, format, findings)
@@ -154,10 +147,10 @@ class Planted(testing.Folder):
     @testing.needs_program
     def test_calls_find_a_fault_of_the_model(self):
         judge = verdicts.Judge(self.folder)
-        images_of = calls.image_maker(testing.SFI, judge)
+        images_of = lives.image_maker(testing.SFI, judge)
         for name, planted in testing.by_turns(worlds.PLANTS.items(), -(-len(worlds.PLANTS) // 3)):
             tally = fuzzing.Tally()
-            self.found(tally, lambda pick: calls.World(pick, images_of, worlds.Model(judge), planted(judge), tally).live(), name)
+            self.found(tally, lambda pick: lives.World(pick, images_of, worlds.Model(judge), planted(judge), tally).live(), name)
 
 
     @testing.needs_program
@@ -185,9 +178,9 @@ class Ports(testing.Folder):
     """fuzz/player.c by libsfi_run, and with a call of another's."""
 
     @needs_gcc
-    @unittest.skipUnless(os.path.exists(calls.LIBRARY), "libsfi_run.a isn't built")
+    @unittest.skipUnless(os.path.exists(worlds.LIBRARY), "libsfi_run.a isn't built")
     def test_another_answer_is_seen(self):
-        made, (library, _) = ports.Trace(), ports.libraries.make("sfi_run", calls.LIBRARY, self.folder)
+        made, (library, _) = ports.Trace(), ports.libraries.make("sfi_run", worlds.LIBRARY, self.folder)
         made.put("load", 1, made.image(bytes.fromhex((testing.TOP / "examples" / "smallest.hex").read_text(encoding="ascii"))))
         for sandbox in (0, 1, 2):
             made.put("steps", 1, sandbox, 0)
@@ -206,7 +199,7 @@ class Ports(testing.Folder):
 
 @testing.needs_program
 @unittest.skipIf(natively.why_not(), "native code doesn't run here")
-@unittest.skipUnless(os.path.exists(calls.LIBRARY) and os.path.exists(natively.COMMANDS), "libsfi_run.a or libsfi_tool_c.a isn't built")
+@unittest.skipUnless(os.path.exists(worlds.LIBRARY) and os.path.exists(natively.COMMANDS), "libsfi_run.a or libsfi_tool_c.a isn't built")
 class Native(unittest.TestCase):
     """Each in a process of its own, which native code may end."""
 
@@ -222,7 +215,7 @@ class Native(unittest.TestCase):
     def test_code_at_a_listed_address_calls_nobody_without_an_ecall(self):
         words = b"\x13\0\0\0" + 63 * b"\x73\0\x10\0"
         image = b"SFIW" + struct.pack("<10I", 1, 0x1000000, len(words), 0x1800000, natively.PAGE, 0x1000000, 1, 0, 0x1000000, 1) + words
-        path = natively.library(calls.LIBRARY, natively.COMMANDS)
+        path = natively.library(worlds.LIBRARY, natively.COMMANDS)
         world = worlds.Library(worlds.Calls(path))
         world.load(image)
         self.assertTrue(natively.is_native(path, world))
@@ -235,7 +228,7 @@ class Native(unittest.TestCase):
         rows = [(0, 0, 0), (0x1000, 0, 0), (0x40000000, 0, 0), (0x7fffffff, 0, 0xfff), (0, -1, 0xffffffff), (0xfff, 2047, 0x17fe),
                 (0xffffffff, 0, 0x80000fff), (0x80000ffd, 4, 0x80001001), (0x80000000, -4, 0x7ffffffc), (0x80001000, 0, None),
                 (0xc0000ffc, 0, None)]
-        path = natively.library(calls.LIBRARY, natively.COMMANDS)
+        path = natively.library(worlds.LIBRARY, natively.COMMANDS)
         for a0, number, trap in rows:
             words = struct.pack("<2I", 0x01b57fb3, (number & 0xfff) << 20 | 31 << 15 | 2 << 12 | 10 << 7 | 3) + 62 * b"\x73\0\x10\0"
             image = b"SFIS" + struct.pack("<8I", 1, 0x1000000, len(words), 0x80000000, natively.PAGE, 0x1000000, 0, 0) + words

@@ -22,9 +22,9 @@ import threading
 PAGE = os.path.dirname(os.path.abspath(__file__))
 TOP = os.path.dirname(PAGE)
 sys.dont_write_bytecode = True
-sys.path.append(os.path.join(TOP, "tools"))
-import chromium
+sys.path.insert(0, os.path.join(TOP, "tools"))
 import testing
+from suygapid.trials import chromium
 
 POKES = 6
 ROUNDS = 40

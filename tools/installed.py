@@ -79,7 +79,7 @@ class Item:
 def is_tool_file(path):
     """Whether a file of a tool's folder serves its user, and not its tests."""
     parts = path.relative_to(TOP).parts
-    made = any(it in ("__pycache__", "target", "build", "tests", "validate", "validate.py") or it.endswith(".egg-info") for it in parts)
+    made = any(it in ("__pycache__", "target", "build", "tests", "trials", "validate", "validate.py") or it.endswith(".egg-info") for it in parts)
     return path.is_file() and not made and not path.name.startswith(("test_", "test.", "random_c"))
 
 

@@ -20,7 +20,7 @@ import zipfile
 from unittest import mock
 
 import libraries
-from testing import SFI, TOOLS, TOP, Folder, needs_program
+from testing import SFI, TOOLS, TOP, Folder, needs_program, with_dask
 
 PYTHON = TOP / "bindings" / "python"
 sys.path.append(str(PYTHON))
@@ -53,14 +53,6 @@ def children_of(process):
         return [int(it) for it in pathlib.Path(f"/proc/{process}/task/{process}/children").read_text(encoding="ascii").split()]
     except FileNotFoundError:  # it has ended
         return []
-
-
-def with_dask():
-    """A Python that has `distributed`, or None."""
-    for python in (sys.executable, "/usr/bin/python3"):
-        if shutil.which(python) and subprocess.run([python, "-c", "import distributed"], capture_output=True, check=False).returncode == 0:
-            return python
-    return None
 
 
 DASK = with_dask()

@@ -6,17 +6,14 @@ import os
 import re
 import shutil
 import subprocess
-import sys
 import unittest
 import xml.etree.ElementTree as ElementTree
 from collections import Counter
 
 import libraries
 from suygapid.pictures.flame import DEEPEST
+from suygapid.trials import chromium
 from testing import GCC, SFI, TOOLS, TOP, Folder, by_turns, formats_due, needs
-
-sys.path.append(str(TOP / "page"))
-import chromium
 
 READY = os.path.exists(SFI) and os.path.exists(libraries.built("sfi_run")) and shutil.which("gcc")
 SVG = "{http://www.w3.org/2000/svg}"

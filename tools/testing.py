@@ -72,6 +72,14 @@ def needs(*names):
     return unittest.skipIf(why, why)
 
 
+def with_dask():
+    """A Python that has Dask's distributed, or None."""
+    for python in (sys.executable, "/usr/bin/python3"):
+        if shutil.which(python) and subprocess.run([python, "-c", "import distributed"], capture_output=True, check=False).returncode == 0:
+            return python
+    return None
+
+
 @functools.cache
 def commits():
     """How many commits stand here, by which what is tried changes; 0 where git knows none."""

@@ -1,6 +1,6 @@
 #!/usr/bin/env python3
-"""Whether libsfi_run_native does for a host what sfi_run.h says: random calls on random images answer what the model of fuzz/worlds.py
-answers, a host's own faults stay its own, and a function that is entered has the room above its stack that the image claims.
+"""Whether libsfi_run_native does for a host what sfi_run.h says: random calls on random images answer what the model of them (worlds.py of
+tools/suygapid/trials) answers, a host's own faults stay its own, and a function that is entered has the room above its stack that the image claims.
 
     examples/native/hosts.py [--library libsfi_run.a] [--commands libsfi_tool_c.a] [--program SFI] [--rounds N] [--seconds S] [SEED ..]
 
@@ -17,14 +17,8 @@ import tempfile
 sys.dont_write_bytecode = True
 HERE = os.path.dirname(os.path.abspath(__file__))
 TOP = os.path.dirname(os.path.dirname(HERE))
-sys.path[:0] = [os.path.join(TOP, it) for it in ("examples/translate", "fuzz")]
-import guarded
-import calls
-import corpus
-import fuzzing
-import measure
-import natively
-import worlds
+sys.path.insert(0, os.path.join(TOP, "tools"))
+from suygapid.trials import corpus, fuzzing, guarded, lives, measure, natively, verdicts, worlds
 
 OPTIONS = ["-std=c11", "-D_POSIX_C_SOURCE=200809L", "-O2", "-Wall", "-Wextra", "-Werror",
            *(f"-I{TOP}/crates/{it}/include" for it in ("sfi_run", "sfi_c"))]
@@ -109,7 +103,7 @@ def try_faults(sfi, library, folder, tally):
 
 def try_world(sfi, judge, opened, pick, tally):
     """The life of a world of random images."""
-    findings = calls.findings_by(judge)
+    findings = lives.findings_by(judge)
 
     def images(own):
         found = None
@@ -118,20 +112,20 @@ def try_world(sfi, judge, opened, pick, tally):
         return guarded.grown(found) if own.random() < 0.8 else corpus.mutant(own, found)
 
     tally.see("version", worlds.header_version(), opened.version())
-    calls.World(pick, images, worlds.Library(opened), worlds.Model(judge), tally).live()
+    lives.World(pick, images, worlds.Library(opened), worlds.Model(judge), tally).live()
 
 
 def main(words=None):
     parser = fuzzing.options(__doc__, 20)
-    parser.add_argument("--library", default=calls.LIBRARY)
+    parser.add_argument("--library", default=worlds.LIBRARY)
     parser.add_argument("--commands", default=natively.COMMANDS)
     given = parser.parse_args(words)
     if why := natively.why_not():
         return fuzzing.all_skipped(1, "hosts of native code", why)
     sfi = measure.program_at(given.program)
-    tally = fuzzing.tally_of(parser, given, calls.NAMES)
+    tally = fuzzing.tally_of(parser, given, lives.NAMES)
     with tempfile.TemporaryDirectory() as folder:
-        judge = calls.verdicts.Judge(folder)
+        judge = verdicts.Judge(folder)
         library = natively.library(given.library, given.commands, folder)
         opened = worlds.Calls(library)
         for tally.case, pick in fuzzing.cases(given):

@@ -16,10 +16,11 @@ import tempfile
 sys.dont_write_bytecode = True
 HERE = os.path.dirname(os.path.abspath(__file__))
 TOP = os.path.dirname(os.path.dirname(HERE))
-sys.path += [os.path.join(TOP, it) for it in ("bench", "tools")]
+sys.path.insert(0, os.path.join(TOP, "tools"))
 import libraries
-import measure
 import testing
+from hostile import is_passed
+from suygapid.trials import measure, translations
 
 TESTS = ("engines", "calls-back", "threads", "stack", "forks", "handler-before", "handler-after", "limited", "maps")
 # Each build, with tests that it leaves out: sanitizers want larger stacks than the least, and maps and addresses of their own.
@@ -33,7 +34,6 @@ WARNINGS = ["-std=gnu11", "-Wall", "-Wextra", "-Werror"]
 SIZES = {"whole": 4096, "far": 4096, "small": 256}  # bytes of data
 PLACES = {"words": ("1000000:1800000", "2000000:2800000", "4000000:4800000"),
           "single": ("1000000:80000000", "2000000:800000", "4000000:40000000")}
-SECONDS = 300  # that a test may take
 ENGINE = "import sys, sfi_run; print(sfi_run.World(open(sys.argv[1], 'rb').read()).engine)"
 
 
@@ -57,13 +57,6 @@ def host(compiler, parts, folder):
     heap = libraries.path("sfi_run", "c", "heap.c")
     subprocess.run([*compiler, *WARNINGS, *included, os.path.join(HERE, "library.c"), own, *parts, heap, "-pthread", "-o", path], check=True)
     return path
-
-
-def is_passed(words):
-    try:
-        return subprocess.run(words, timeout=SECONDS, check=False).returncode == 0
-    except subprocess.TimeoutExpired:
-        return False
 
 
 def is_its_own(given, image, folder):
@@ -100,12 +93,7 @@ def main():
         print("skipped: libsfi_run_native: gcc isn't there, or this isn't Linux on x86-64\n0 passed, 0 failed, 1 skipped")
         return 0
     with tempfile.TemporaryDirectory() as folder:
-        found = list(tried(given, folder))
-    failed = [what for what, is_right in found if not is_right]
-    for what in failed:
-        print(f"FAILED {what}")
-    print(f"{len(found) - len(failed)} passed, {len(failed)} failed")
-    return bool(failed)
+        return translations.ended(list(tried(given, folder)))
 
 
 if __name__ == "__main__":

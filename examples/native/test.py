@@ -16,17 +16,12 @@ import tempfile
 import zlib
 
 sys.dont_write_bytecode = True
-HERE = os.path.dirname(os.path.abspath(__file__))
-TOP = os.path.dirname(os.path.dirname(HERE))
-sys.path += [os.path.join(TOP, it) for it in ("examples/translate", "fuzz", "bench", "tools")]
-import calls
-import corpus
-import guarded
+TOP = os.path.dirname(os.path.dirname(os.path.dirname(os.path.abspath(__file__))))
+sys.path.insert(0, os.path.join(TOP, "tools"))
 import hostile
-import natively
-import trial
-import worlds
 from suygapid import native
+from suygapid.trials import corpus, guarded, natively, translations, worlds
+from suygapid.trials.measure import written
 
 INCLUDED = [word for it in ("sfi_native", "sfi_translate") for word in ("-I", os.path.join(TOP, "crates", it, "include"))]
 FLAGS = ["-std=gnu11", "-Wall", "-Wextra", "-Werror", "-Wno-unused-function", *INCLUDED]
@@ -40,12 +35,6 @@ def printed(words, text=b""):
     return subprocess.run(words, input=text, stdout=subprocess.PIPE, stderr=subprocess.DEVNULL).stdout
 
 
-def written(path, data):
-    with open(path, "wb") as file:
-        file.write(data)
-    return path
-
-
 def is_closed(file):
     """Whether the file ends with its length and the checksum of all before."""
     length, checksum = struct.unpack("<II", file[-8:])
@@ -56,7 +45,7 @@ def try_image(sfi, library, image):
     """What the image does by turns of each kind, and whether it is right."""
     yield f"the file of {image.hex()[:80]}.. is closed", is_closed(printed([sfi, "native"], image))
     for turns in TURNS:
-        options = (*turns, bytes.fromhex(trial.INPUT))
+        options = (*turns, bytes.fromhex(translations.INPUT))
         lines, places = natively.told(printed(natively.run_words(sfi, options), image).decode())
         found = natively.outcomes(library, worlds.Calls(library), image, options)
         same = [it.line for it in found] == lines and all(found[number].registers == place for number, place in places.items())
@@ -111,7 +100,7 @@ def try_zones(sfi, images):
 
 
 def main():
-    given = trial.options(__doc__, library=calls.LIBRARY, commands=natively.COMMANDS)
+    given = translations.options(__doc__, library=worlds.LIBRARY, commands=natively.COMMANDS)
     compilers = [it for it in COMPILERS if shutil.which(it[0])]
     why = natively.why_not()
     if why:
@@ -131,7 +120,7 @@ def main():
             tried += try_refusals(given.program, folder, image)
         tried += hostile.decodes(printed, compilers[0], FLAGS, folder, pick)
         tried += hostile.tests(printed, given.program, [it[0] for it in compilers], FLAGS, folder)
-    return trial.ended(tried)
+    return translations.ended(tried)
 
 
 if __name__ == "__main__":

@@ -23,11 +23,9 @@ import time
 
 HERE = pathlib.Path(__file__).resolve().parent
 sys.dont_write_bytecode = True
-sys.path.insert(0, str(HERE.parents[1] / "tools"))
+TOP = HERE.parents[1]
+sys.path.insert(0, os.path.join(TOP, "tools"))
 import libraries
-import suygapid
-
-TOP = pathlib.Path(suygapid.TOP)
 
 STEPS = ".sandbox 256\nloop: addi a0, a0, 1\n j loop\n"
 LARGE = ".format 2\n.sandbox 65536\n" + "nop\n" * 16384 + "ebreak\n"

@@ -1,6 +1,6 @@
 #!/usr/bin/env python3
 """Whether lines mean in sfi_native.h what the manual says of their instructions: lines of all kinds are done once by the C
-function and once by sfi_step, from random registers and data, and random code is run by sfi_turn, beside fuzz/machine.py; and
+function and once by sfi_step, from random registers and data, and random code is run by sfi_turn, beside machine.py of tools/suygapid/trials; and
 some lines whose values the manual states. By gcc and clang, without optimization, with it, and under sanitizers, of which
 three have their turn. Then the header gets mistakes (form_mistakes.py), a third of them by turns, and the comparison has to see each.
 
@@ -18,14 +18,16 @@ import subprocess
 import sys
 import tempfile
 
+HERE = os.path.dirname(os.path.abspath(__file__))
+TOP = os.path.dirname(os.path.dirname(HERE))
 sys.dont_write_bytecode = True
+sys.path.insert(0, os.path.join(TOP, "tools"))
 import lines
 import form_mistakes
-import machine
 import testing
-from lines import HERE, TOP
 from suygapid.image import layout
 from suygapid.isa.decoding import Instruction
+from suygapid.trials import machine
 
 HEADER = "sfi_native.h"
 CODE, CODE_SIZE, DATA_SIZE, PLACE, MASK = 0x01000000, 65536, 256, 8, 0xFFFFFFFF

@@ -3,16 +3,10 @@
 
     examples/translate/lines.py SFI IMAGE.hex > IMAGE.inc
 """
-import os
 import re
 import struct
 import subprocess
 import sys
-
-HERE = os.path.dirname(os.path.abspath(__file__))
-TOP = os.path.dirname(os.path.dirname(HERE))
-sys.dont_write_bytecode = True
-sys.path += [os.path.join(TOP, it) for it in ("fuzz", "bench", "tools")]  # for the other scripts here
 
 FUNCTION_MOST = 16384
 HEAD_BYTES = 128

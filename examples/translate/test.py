@@ -13,14 +13,15 @@ import subprocess
 import sys
 import tempfile
 
+HERE = os.path.dirname(os.path.abspath(__file__))
+TOP = os.path.dirname(os.path.dirname(HERE))
 sys.dont_write_bytecode = True
+sys.path.insert(0, os.path.join(TOP, "tools"))
 import lines
-import corpus
 import testing
-import trial
 import whole_translation
-from lines import HERE, TOP
 from suygapid.image.layout import MAGICS, Part, spelled
+from suygapid.trials import corpus, translations
 
 INCLUDE = os.path.join(TOP, "crates/sfi_translate/include")
 COMPILERS = (("gcc", "-O2"), ("clang", "-O1"))
@@ -68,7 +69,7 @@ def differing(sfi, compiler, folder, image):
     digits = image.hex()
     for program in programs(sfi, compiler, folder, digits):
         for rounds, quantum in TURNS:
-            options = ["--rounds", rounds, "--quantum", quantum, "--input", trial.INPUT]
+            options = ["--rounds", rounds, "--quantum", quantum, "--input", translations.INPUT]
             yield options, printed([sfi, "run", *options], digits.encode()), printed([program, *options])
 
 
@@ -132,7 +133,7 @@ def try_images(sfi, compilers, folder, images):
 
 
 def main():
-    given = trial.options(__doc__)
+    given = translations.options(__doc__)
     pick = random.Random(given.seed)
     skipped = 0
     tried = [("the front of whole programs is the header and the console", whole_translation.is_made())]
@@ -152,7 +153,7 @@ def main():
             skipped += 1
         for program in programs(given.program, compilers[0], folder, images[0].hex()) if compilers else []:
             tried += [(f"the options {options}: status {found}, not {wanted}", wanted == found) for options, wanted, found in statuses(program)]
-    return trial.ended(tried, skipped)
+    return translations.ended(tried, skipped)
 
 
 if __name__ == "__main__":

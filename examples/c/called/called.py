@@ -19,10 +19,10 @@ from multiprocessing import Pool
 HERE = os.path.dirname(os.path.abspath(__file__))
 TOP = os.path.dirname(os.path.dirname(os.path.dirname(HERE)))
 sys.dont_write_bytecode = True
-sys.path.insert(0, os.path.join(os.path.dirname(HERE), "torture"))
-
-import torture
+sys.path.insert(0, os.path.join(TOP, "tools"))
+import libraries
 from suygapid.cc.compilers import Failed, ran
+from suygapid.trials import torture
 from testing import formats_due, lacking, sample
 
 SOURCE = os.path.join(HERE, "functions.c")
@@ -126,8 +126,7 @@ def tests(options, folder):
 def parsed(words):
     parser = argparse.ArgumentParser(prog="called.py", description=__doc__.split("\n", maxsplit=1)[0])
     parser.add_argument("--program", default=os.path.join(TOP, "sfi"), help="the program sfi; ./sfi at the top if absent")
-    parser.add_argument("--library", default=os.path.join(TOP, "crates", "sfi_run", "out", "libsfi_run.a"),
-                        help="a libsfi_run.a that rt built")
+    parser.add_argument("--library", default=libraries.built("sfi_run"), help="a libsfi_run.a that rt built")
     parser.add_argument("--sample", type=int, default=SAMPLE, help="how many torture tests; %(default)s if absent")
     parser.add_argument("--seed", type=int, default=sample() + OTHERS, help="which ones; by the number of commits if absent")
     options = parser.parse_args(words)

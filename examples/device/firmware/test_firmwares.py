@@ -1,5 +1,5 @@
 """Runs the firmwares of this folder on QEMU's `virt`, whose flash is a file, and cuts their power: QEMU ends before a write, and
-starts anew. The checker (checker.py) judges each version on the device."""
+starts anew. The checker (device_checker.py) judges each version on the device."""
 import ctypes
 import hashlib
 import os
@@ -15,11 +15,9 @@ import unittest
 sys.dont_write_bytecode = True
 HERE = pathlib.Path(__file__).resolve().parent
 TOP = HERE.parents[2]
-sys.path += [str(HERE.parent / "store"), str(TOP / "examples" / "rust"), str(TOP / "tools")]
-import checker
-import rust_target
+sys.path.insert(0, os.path.join(TOP, "tools"))
 import testing
-import walk
+from suygapid.trials import device_checker, rust_target, store_walk
 
 SFI = pathlib.Path(os.environ.get("SFI", TOP / "crates" / "sfi" / "out" / "sfi"))
 FLASH_SIZE = 1 << 25
@@ -63,14 +61,14 @@ def hostile(image):
     return image[:at] + bytes.fromhex("73100030") + image[at + 4:]
 
 
-def update(plugin, sequence, image, key=walk.KEY):
-    claim = bytes(walk.right(sequence, 0, image).claim())
+def update(plugin, sequence, image, key=store_walk.KEY):
+    claim = bytes(store_walk.right(sequence, 0, image).claim())
     signature = hashlib.sha256(key + plugin.to_bytes(4, "little") + claim).digest().ljust(64, b"\0")
     return claim + signature + image + bytes(-len(image) % 4)
 
 
 def inbox(updates):
-    return b"".join(updates) + bytes(ctypes.sizeof(walk.Claim) + 64)
+    return b"".join(updates) + bytes(ctypes.sizeof(store_walk.Claim) + 64)
 
 
 def of(plugin, lines):
@@ -96,7 +94,7 @@ class Built(unittest.TestCase):
         room = tempfile.TemporaryDirectory()
         cls.addClassCleanup(room.cleanup)
         cls.room = pathlib.Path(room.name)
-        subprocess.run(["make", "-s", "-C", HERE, f"OUT={cls.room}", f"CHECKER={checker.made()}", *cls.compiler(), cls.language],
+        subprocess.run(["make", "-s", "-C", HERE, f"OUT={cls.room}", f"CHECKER={device_checker.made()}", *cls.compiler(), cls.language],
                        check=True, stdout=subprocess.PIPE)
 
     def setUp(self):

@@ -1,5 +1,5 @@
 """Runs a firmware with a store on QEMU's `virt`, whose flash chips keep their bytes at a reset, and cuts its power at chosen writes.
-The checker (checker.py) judges each version on the device."""
+The checker (device_checker.py) judges each version on the device."""
 import ctypes
 import hashlib
 import itertools
@@ -12,10 +12,11 @@ import tempfile
 import unittest
 
 sys.dont_write_bytecode = True
-import checker
-import walk
-
 HERE = pathlib.Path(__file__).resolve().parent
+TOP = HERE.parents[2]
+sys.path.insert(0, os.path.join(TOP, "tools"))
+from suygapid.trials import device_checker, store_walk
+
 INBOX = 0x80300000  # of firmware.c
 CODE, DATA, DATA_SIZE = "0x80100000", "0x80402000", "256"
 EXITS = "exit: gate\n li a0, 0\n jal x1, exit"
@@ -43,10 +44,10 @@ def inbox(images):
     """Updates of the versions 1, 2, .., each of which ends all older ones once it is kept."""
     sent = b""
     for sequence, image in enumerate(images, 1):
-        claim = bytes(walk.right(sequence, sequence, image).claim())
-        signature = hashlib.sha256(walk.KEY + claim).digest().ljust(64, b"\0")
+        claim = bytes(store_walk.right(sequence, sequence, image).claim())
+        signature = hashlib.sha256(store_walk.KEY + claim).digest().ljust(64, b"\0")
         sent += claim + signature + image + bytes(-len(image) % 4)
-    return sent + bytes(ctypes.sizeof(walk.Claim) + 64)
+    return sent + bytes(ctypes.sizeof(store_walk.Claim) + 64)
 
 
 def without_repeats(runs):
@@ -95,7 +96,7 @@ class Firmware(unittest.TestCase):
 
     def test_cuts_where_versions_are_judged(self):
         """The second version isn't accepted, and the third works."""
-        self.passages(checker.made(), [image_of(self.room, it) for it in (EXITS, REFUSED, EXITS)], "1,2,1,3", 3)
+        self.passages(device_checker.made(), [image_of(self.room, it) for it in (EXITS, REFUSED, EXITS)], "1,2,1,3", 3)
 
 
 if __name__ == "__main__":

@@ -1,4 +1,4 @@
-"""Tests of device/store.c beside the model of walk.py. CUTS in the environment is how often the power is cut."""
+"""Tests of device/store.c beside the model of tools/suygapid/trials/store_walk.py. CUTS in the environment is how often the power is cut."""
 import ctypes
 import hashlib
 import os
@@ -8,16 +8,16 @@ import tempfile
 import unittest
 
 sys.dont_write_bytecode = True
-sys.path.append(os.path.join(os.path.dirname(os.path.abspath(__file__)), "..", "..", "..", "tools"))
-import hostile
-import store
+TOP = os.path.dirname(os.path.dirname(os.path.dirname(os.path.dirname(os.path.abspath(__file__)))))
+sys.path.insert(0, os.path.join(TOP, "tools"))
+import attacks
 import testing
-import walk
-from flash import PIECES, Misused
+from suygapid.trials import store, store_walk
+from suygapid.trials.flash import PIECES, Misused
 
 CUTS = int(os.environ.get("CUTS", "10000"))
 MISTAKE_CUTS = 1500  # in which a mistake has to be seen
-ATTACKS = 400  # rounds of hostile.py
+ATTACKS = 400  # rounds of attacks.py
 ONE_RECORD = (256, 64)  # a flash whose sectors hold one record each
 MISTAKES = (  # what, the text of store.c, and the text in its place
     ("the latest record's sector is erased", "store->place < size ? size : 0", "store->place < size ? 0 : size"),
@@ -71,9 +71,9 @@ class Stores(unittest.TestCase):
 
     def walk(self, library, cuts):
         """Walks in flashes of each shape until the power was cut so often."""
-        for number, shape in enumerate(walk.SHAPES):
-            one = walk.Walk(library, number, shape)
-            while one.flash.cuts < cuts // len(walk.SHAPES):
+        for number, shape in enumerate(store_walk.SHAPES):
+            one = store_walk.Walk(library, number, shape)
+            while one.flash.cuts < cuts // len(store_walk.SHAPES):
                 one.step(cuts=True)
 
     def test_digests(self):
@@ -89,9 +89,9 @@ class Stores(unittest.TestCase):
         self.walk(self.library, CUTS)
 
     def attack(self, library):
-        for number, shape in enumerate(walk.SHAPES):
-            one = hostile.Hostile(library, number, shape)
-            for _ in range(ATTACKS // len(walk.SHAPES)):
+        for number, shape in enumerate(store_walk.SHAPES):
+            one = attacks.Hostile(library, number, shape)
+            for _ in range(ATTACKS // len(store_walk.SHAPES)):
                 one.round()
 
     def test_hostile_flash(self):
@@ -101,12 +101,12 @@ class Stores(unittest.TestCase):
 
     def scenario(self, cut_at=None, piece=None):
         """The versions 1, kept; 2, kept; 3, rejected: so the second area is written twice. How many writes that takes."""
-        one = walk.Walk(self.library, 1, ONE_RECORD)
+        one = store_walk.Walk(self.library, 1, ONE_RECORD)
         if cut_at is not None:
             one.flash.plan_cut(cut_at, piece)
         one.choose()
         for sequence in (1, 2, 3):
-            one.put(walk.right(sequence, sequence - 1, one.chance.randbytes(150 * sequence)))
+            one.put(store_walk.right(sequence, sequence - 1, one.chance.randbytes(150 * sequence)))
             one.choose()
             (one.reject if sequence == 3 else one.keep)()
         one.choose()
@@ -125,18 +125,18 @@ class Stores(unittest.TestCase):
                     one.reject()
                     one.choose()
                 one.keep()
-                one.put(walk.right(9, 0, b"the next"))
+                one.put(store_walk.right(9, 0, b"the next"))
                 one.choose()
                 self.assertEqual(one.model.versions[one.chosen], ("on trial", 1, 9, 0), (cut_at, piece))
 
     def test_worn_flash(self):
         """Where nothing can be written, no trial begins, and the good version runs; and where it can again, the trial does."""
-        one = walk.Walk(self.library, 1, ONE_RECORD)
+        one = store_walk.Walk(self.library, 1, ONE_RECORD)
         one.choose()
-        one.put(walk.right(1, 0, b"first"))
+        one.put(store_walk.right(1, 0, b"first"))
         one.choose()
         one.keep()
-        one.put(walk.right(2, 0, b"second"))
+        one.put(store_walk.right(2, 0, b"second"))
         area = ctypes.c_uint32()
         for is_worn, chosen in ((True, 0), (False, 1)):
             one.reset()
@@ -146,10 +146,10 @@ class Stores(unittest.TestCase):
 
     def test_last_generation(self):
         """Behind the last generation the first comes."""
-        one = walk.Walk(self.library, 1, ONE_RECORD)
+        one = store_walk.Walk(self.library, 1, ONE_RECORD)
         one.choose()
         one.store.record.generation = 2 ** 32 - 2
-        one.put(walk.right(1, 0, b"first"))
+        one.put(store_walk.right(1, 0, b"first"))
         one.choose()
         one.keep()
         self.assertEqual(one.store.record.generation, 1)
@@ -157,7 +157,7 @@ class Stores(unittest.TestCase):
         self.assertEqual(one.model.versions[0], ("good", 1, 1, 0))
 
     def test_setup(self):
-        one = walk.Walk(self.library, 1, ONE_RECORD)
+        one = store_walk.Walk(self.library, 1, ONE_RECORD)
         right = bytes(one.store)
         sector, areas = ONE_RECORD[0], list(one.store.areas)
         beside = ((ctypes.c_uint32 * 2)(areas[0] + 16, areas[1]), (ctypes.c_uint32 * 2)(areas[0], 2 ** 32 - sector))
@@ -170,10 +170,10 @@ class Stores(unittest.TestCase):
 
     def test_own_claim(self):
         """An update that was broken off begins anew by the claim that the store has of it, and without a signature isn't signed."""
-        one = walk.Walk(self.library, 1, ONE_RECORD)
+        one = store_walk.Walk(self.library, 1, ONE_RECORD)
         one.choose()
         image = b"an image"
-        right = walk.right(1, 0, image)
+        right = store_walk.right(1, 0, image)
         claim, signature = right.claim(), right.signature()
         self.assertEqual(one.call("begin", ctypes.byref(claim), signature), "done")
         self.assertEqual(one.call("begin", ctypes.byref(one.store.update.claim), one.store.update.signature), "done")
@@ -185,7 +185,7 @@ class Stores(unittest.TestCase):
         for what, old, new in testing.by_turns(table, -(-len(table) // 3)):
             with self.subTest(what):
                 self.assertEqual(text.count(old), 1, "it stands there once")
-                with tempfile.TemporaryDirectory() as room, self.assertRaises((walk.Wrong, Misused)):
+                with tempfile.TemporaryDirectory() as room, self.assertRaises((store_walk.Wrong, Misused)):
                     run(store.build(room, text.replace(old, new)))
 
     def test_mistakes(self):

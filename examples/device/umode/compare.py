@@ -17,8 +17,8 @@ import tempfile
 HERE = pathlib.Path(__file__).resolve().parent
 TOP = HERE.parents[2]
 sys.dont_write_bytecode = True
-sys.path.insert(0, str(TOP / "bench"))
-import compiled
+sys.path.insert(0, os.path.join(TOP, "tools"))
+from suygapid.trials import compiled
 
 SFI = os.path.abspath(sys.argv[1]) if len(sys.argv) > 1 else str(TOP / "sfi")
 CODE, DATA, DATA_SIZE = 0x80100000, 0x80408000, 1 << 15
@@ -30,7 +30,7 @@ IN_ONE_MODE = "main.c ../umode/count.c"
 
 
 def at_the_chip():
-    """Has bench/compiled.py link plain code where the chip has memory."""
+    """Has plain code linked where the chip has memory."""
     compiled.SCRIPT = compiled.SCRIPT.replace("0x1000000", hex(CODE)).replace("0x1800000", hex(DATA))
     compiled.GATES = [(CODE + compiled.BUNDLE * service, service) for service in range(3)]
     compiled.CODE, compiled.DATA, compiled.DATA_SIZE = CODE, DATA, DATA_SIZE

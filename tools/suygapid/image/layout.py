@@ -1,6 +1,6 @@
 """The layout of an image, read and written by docs/IMAGE.md, apart from the proved reader and writer.
 
-It is untrusted: nothing is proved of it. `fuzz/verdicts.py` compares the program with it.
+It is untrusted: nothing is proved of it. `fuzz/commands.py` and `fuzz/mutants.py` compare the program with it.
 """
 import dataclasses
 import struct

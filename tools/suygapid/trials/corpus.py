@@ -1,19 +1,15 @@
-"""Images to try: accepted ones, these changed, and ones of random code. The generators are those of bench/."""
+"""Images to try: accepted ones, these changed, and ones of random code. What makes these is beside this file."""
 import dataclasses
 import functools
 import glob
 import os
 import struct
 
-import fuzzing
-
-import images
-import measure
-import odd_images
-import odd_words
+from suygapid import TOP
 from suygapid.image import layout
+from suygapid.trials import fuzzing, images, measure, odd_images, odd_words
 
-EXAMPLES = os.path.join(fuzzing.TOP, "examples")
+EXAMPLES = os.path.join(TOP, "examples")
 FORMAT_LINES = (b".format 1\n", b".format 2\n", b".format words\n", b".format single\n")
 MAGICS = list(images.MAGICS.values()) + [b"SFI3", b"sfi1"]
 EBREAK, NOP, SHORT_EBREAK, SHORT_NOP = 0x00100073, 0x13, 0x9002, 0x0001

@@ -1,6 +1,6 @@
 """Worlds of sandboxes as sfi_run.h says that they behave: a model, and the library behind the same methods.
 
-Each method answers what a caller of the C call sees. The model is untrusted, and stands on fuzz/machine.py.
+Each method answers what a caller of the C call sees. The model is untrusted, and stands on machine.py.
 """
 import collections
 import ctypes
@@ -8,17 +8,17 @@ import os
 import re
 import subprocess
 
-import fuzzing
-import machine
-import word_rules
+import libraries
+from suygapid import TOP
 from suygapid.image import layout
+from suygapid.trials import machine, word_rules
 
 NONE, READY, CALL, EXITED, TRAPPED, STOPPED = range(6)
 CHANGED, NO_WORLD, NO_MODULE, NO_SANDBOX, MEETS, FULL, NO_MEMORY = range(7)
 SLACK = 1020  # how far off the data the address in a data register may be, in words
 DATA_REGISTERS = {layout.WORDS: word_rules.WORDS.data_registers, layout.SINGLE: word_rules.SINGLE.data_registers}
-Event = collections.namedtuple("Event", "kind number gate pc a0 a1 a2 a3 a4 a5 a6 a7", defaults=[0] * 11)
-HEADER = os.path.join(fuzzing.TOP, "crates", "sfi_run", "include", "sfi_run.h")
+Event = collections.namedtuple("Event", "kind number gate pc a0 a1 a2 a3 a4 a5 a6 a7", defaults=(0, 0, 0, 0, 0, 0, 0, 0, 0, 0, 0))
+LIBRARY, HEADER = libraries.built("sfi_run"), libraries.header("sfi_run")
 FILL = 0xA5  # what a buffer holds before a read
 
 
@@ -525,6 +525,5 @@ def linked(library, folder):
     """The path of a shared library: that one, or one made of a static library of rt's."""
     if not library.endswith(".a"):
         return os.path.abspath(library)
-    subprocess.run([os.path.join(fuzzing.TOP, "tools", "libraries.py"), "sfi_run", os.path.abspath(library), folder], check=True,
-                   stdout=subprocess.DEVNULL)
+    subprocess.run([os.path.join(TOP, "tools", "libraries.py"), "sfi_run", os.path.abspath(library), folder], check=True, stdout=subprocess.DEVNULL)
     return os.path.join(folder, "libsfi_run.so")

@@ -6,8 +6,9 @@ import subprocess
 import tempfile
 import unittest
 
-TOP = pathlib.Path(__file__).resolve().parents[3]
-LIBRARY = TOP / "crates" / "sfi_c" / "out" / "wasm64-unknown-unknown" / "libsfi_c.a"
+from suygapid import TOP
+
+LIBRARY = pathlib.Path(TOP) / "crates" / "sfi_c" / "out" / "wasm64-unknown-unknown" / "libsfi_c.a"
 ISNT_THERE = 3  # the status of checker.sh where a tool is missing
 ROOM = tempfile.TemporaryDirectory()
 
@@ -19,7 +20,7 @@ def made():
         return pathlib.Path(os.environ["CHECKER"]).resolve()
     if not LIBRARY.is_file():
         raise unittest.SkipTest(f"{LIBRARY} isn't there: tools/build_library.py makes it")
-    ran = subprocess.run([TOP / "device" / "checker.sh", LIBRARY, ROOM.name], stderr=subprocess.PIPE, text=True, check=False)
+    ran = subprocess.run([os.path.join(TOP, "device", "checker.sh"), LIBRARY, ROOM.name], stderr=subprocess.PIPE, text=True, check=False)
     if ran.returncode == ISNT_THERE:
         raise unittest.SkipTest(ran.stderr.strip())
     ran.check_returncode()

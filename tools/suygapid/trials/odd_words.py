@@ -3,11 +3,9 @@ on, and to run."""
 import random
 import struct
 
-import images
-import odd_images
-import word_rules
 from suygapid.image.layout import SINGLE, WORDS, Part, spelled
 from suygapid.isa.encoding import b_type, jal, s_type
+from suygapid.trials import images, odd_images, word_rules
 
 DATA_SIZE = 256
 REGISTERS = [0, 1, 2, 2, 3, 4, 5, 8, 10, 24, 25, 26, 26, 27, 28, 29, 30, 31]

@@ -2,8 +2,8 @@
 import random
 import struct
 
-import images
 from suygapid.image.layout import Part, spelled
+from suygapid.trials import images
 
 STUB = bytes.fromhex("73000000b3ff9001b3ef8f0167800f00")
 REGISTERS = [0, 1, 2, 2, 8, 9, 10, 24, 25, 26, 27, 31]

@@ -1,14 +1,12 @@
-"""Tests of code in words with single masks, without the program: of random code the second checker says what bench/word_rules.py says,
-and what it accepts keeps to its sandbox on fuzz/machine.py, and without one of its rules it doesn't."""
+"""Tests of code in words with single masks, without the program: of random code the second checker says what word_rules.py says,
+and what it accepts keeps to its sandbox on machine.py (both in tools/suygapid/trials), and without one of its rules it doesn't."""
 import random
 import unittest
 
 import escapes
-
-import odd_words
 import second_checker
-import word_rules
 from suygapid.image import layout
+from suygapid.trials import odd_words, word_rules
 
 CODE, SIZE, DATA_SIZE, ENTRIES = 0xC1000000, 256, 256, 40
 COMPARED, ROUNDS, PLANTED_ROUNDS = 400, 60, 300

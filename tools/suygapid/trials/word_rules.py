@@ -1,6 +1,6 @@
 """Code in words, read and judged by its table of rules in docs/IMAGE.md, apart from the proved checker.
 
-It is untrusted: nothing is proved of it. `fuzz/verdicts.py` compares the program with it.
+It is untrusted: nothing is proved of it. `fuzz/commands.py` and `fuzz/mutants.py` compare the program with it.
 """
 import struct
 from typing import Callable, NamedTuple

@@ -3,7 +3,9 @@ import ctypes
 import pathlib
 import subprocess
 
-DEVICE = pathlib.Path(__file__).resolve().parents[3] / "device"
+from suygapid import TOP
+
+DEVICE = pathlib.Path(TOP, "device")
 SOURCES = ("store.c", "sha256.c")
 FLAGS = ("-std=c11", "-O2", "-fPIC", "-shared", "-Wall", "-Wextra", "-Wpedantic", "-Wconversion", "-Wshadow", "-Wmissing-prototypes",
          "-Werror")

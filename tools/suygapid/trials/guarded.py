@@ -4,9 +4,9 @@ end of the data, or of the addresses below their size where masks are single.
 import struct
 import subprocess
 
-import lines
-import corpus
 from suygapid.image import layout
+from suygapid.isa.decoding import LOADS, STORES
+from suygapid.trials import corpus
 
 PAGE = 4096
 FORMATS = {1: b".format 1\n", 2: b".format 2\n", 3: b".format words\n", layout.SINGLE: b".format single\n"}
@@ -82,7 +82,7 @@ def sandbox(pick, place_number, format, sandbox_number):
     data, *_ = found = origins(format, sandbox_number)
     which, place = divmod(place_number, PLACES)
     before, base, number = placed(pick, size, places(size)[place], format, found[which])
-    kind = pick.choice(pick.choice([lines.LOADS, lines.STORES]))
+    kind = pick.choice(pick.choice([LOADS, STORES]))
     text = [f".sandbox {size}", ".gate exit 0", ".option rvc" if pick.random() < 0.5 else "", f"li a1, {pick.getrandbits(32)}",
              f"li s1, {pick.getrandbits(32)}", f"li a0, {data + size - 4}", "sw a1, 0(a0)", f"li a3, {data}", f"sw s1, 0({'a3' if data else 'zero'})",
              *before, *accesses(pick, kind, base, number), "xor a0, a2, s1", "xor a0, a0, t0", f"li a3, {data}", f"li a4, {data + size - 4}",

@@ -1,16 +1,12 @@
-"""What sfi-rustc and sfi-rust-ld share: a Rust compiler, `core` and `alloc` for sandboxes, and the way from a program's text of
+"""What sfi-rustc and sfi-rust-ld of examples/rust share: a Rust compiler, `core` and `alloc` for sandboxes, and the way from a program's text of
 LLVM's to an image."""
 import glob
 import os
 import re
 import subprocess
-import sys
 from dataclasses import dataclass
 
-HERE = os.path.dirname(os.path.realpath(__file__))
-TOOLS = os.path.join(os.path.dirname(os.path.dirname(HERE)), "tools")
-sys.path.insert(0, TOOLS)
-
+from suygapid import TOOLS
 from suygapid.cc.compilers import LEVELS, RESERVED_IN_WORDS, Failed, by_llc, ran, tell
 from suygapid.kept import kept
 from suygapid.library.sources import identity

@@ -1,13 +1,12 @@
-"""How the benchmarks run and measure programs."""
+"""How programs are run and measured, and what bench/ has in C for that."""
 import os
 import re
 import subprocess
 import sys
 
-HERE = os.path.dirname(os.path.abspath(__file__))
-TOP = os.path.dirname(HERE)
-sys.dont_write_bytecode = True
-sys.path += [os.path.join(TOP, "tools"), os.path.join(TOP, "examples", "c")]
+from suygapid import TOP
+
+BENCH = os.path.join(TOP, "bench")
 PROGRAM = os.path.join(TOP, "crates", "sfi", "out", "sfi")
 
 
@@ -25,15 +24,15 @@ def end(passed):
 
 
 def compiled(source, target, *options):
-    """The path of what gcc -O2 makes of a C source, of this folder if no other is named."""
-    subprocess.run(["gcc", "-O2", *options, "-o", target, os.path.join(HERE, source)], check=True)
+    """The path of what gcc -O2 makes of a C source, of bench/ if no other folder is named."""
+    subprocess.run(["gcc", "-O2", *options, "-o", target, os.path.join(BENCH, source)], check=True)
     return target
 
 
 def checkers(source, folder):
     """By name, the paths of a checker in C, in both of its ways to classify instructions."""
     ways = {"C, switches": [], "C, class table": ["-DCLASS_TABLE"]}
-    path = os.path.join(HERE, "checker.c") if source == "checker.c" else os.path.abspath(source)
+    path = os.path.join(BENCH, "checker.c") if source == "checker.c" else os.path.abspath(source)
     return {name: compiled(path, os.path.join(folder, name), *options) for name, options in ways.items()}
 
 

@@ -7,11 +7,9 @@ import platform
 import re
 import sys
 
-import fuzzing
-import worlds
-
 import libraries
 from suygapid.image import layout
+from suygapid.trials import fuzzing, worlds
 
 COMMANDS = libraries.built("sfi_tool_c")  # the library with the compiler
 NATIVE = 2  # SFI_RUN_NATIVE of sfi_run_native.h

@@ -5,9 +5,9 @@ import dataclasses
 import hashlib
 import random
 
-from flash import PIECES, Flash, Misused
-from store import (AREAS, ERASE, IS_SIGNED, PROGRAM, RAISE_COUNTER, READ, READ_COUNTER, STATES, STATUSES, WATCH, Claim,
-                   Functions, Store)
+from suygapid.trials.flash import PIECES, Flash, Misused
+from suygapid.trials.store import (AREAS, ERASE, IS_SIGNED, PROGRAM, RAISE_COUNTER, READ, READ_COUNTER, STATES, STATUSES, WATCH, Claim,
+                                   Functions, Store)
 
 TRIAL_STARTS = 2
 SHAPES = ((256, 16), (512, 8), (768, 64), (1024, 256))  # of a flash: a sector's bytes and a page's

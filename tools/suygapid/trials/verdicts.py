@@ -1,4 +1,4 @@
-"""What the independent checkers say of an image: bench/checker.c of code in bundles, bench/word_rules.py of code in words.
+"""What the independent checkers say of an image: bench/checker.c of code in bundles, word_rules.py of code in words.
 
 With a rule left out they say what a checker without it would say: the comparisons have to see that.
 """
@@ -7,13 +7,11 @@ import functools
 import os
 import re
 
-import fuzzing
-
-import measure
-import word_rules
+from suygapid import TOP
 from suygapid.image import layout
+from suygapid.trials import fuzzing, measure, word_rules
 
-with open(os.path.join(fuzzing.TOP, "docs", "IMAGE.md"), encoding="utf-8") as file:
+with open(os.path.join(TOP, "docs", "IMAGE.md"), encoding="utf-8") as file:
     IN_BUNDLES, IN_WORDS = (dict(re.findall(r"^\| (V\d+) \| `(\w+)` \|", text, re.MULTILINE))
                             for text in file.read().split("\n## Code in words\n"))
 

@@ -1,19 +1,13 @@
-"""What the scripts of this folder share: their options, how a program is run, and what is counted and printed."""
+"""What the scripts of fuzz/ share: their options, how a program is run, and what is counted and printed."""
 import argparse
 import collections
 import itertools
-import os
 import random
 import shutil
 import subprocess
-import sys
 import time
 
-sys.dont_write_bytecode = True
-TOP = os.path.dirname(os.path.dirname(os.path.abspath(__file__)))
-sys.path[:0] = [os.path.join(TOP, "bench"), os.path.join(TOP, "tools")]
-
-import measure
+from suygapid.trials import measure
 
 SHOWN = 3  # how many cases of each comparison that differ are printed, with what repeats them
 MOST_SECONDS = 120  # of one command

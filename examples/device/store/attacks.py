@@ -3,8 +3,8 @@ right check, claims of any version, the vendor's own claims and images of other 
 import ctypes
 import hashlib
 
-import walk
-from store import AREAS, STATES, Claim, Record, Version
+from suygapid.trials import store_walk
+from suygapid.trials.store import AREAS, STATES, Claim, Record, Version
 
 LAYOUT = 0x31494653
 NUMBERS = (0, 1, 2, 5, 2 ** 31 - 1, 2 ** 31, 2 ** 32 - 2, 2 ** 32 - 1)
@@ -76,7 +76,7 @@ class Attack:
         self.victim.flash.programmed = set(range(0, self.victim.flash.size, self.victim.flash.page))
 
 
-class Hostile(walk.Walk):
+class Hostile(store_walk.Walk):
     """A store that has no model: only what has to hold for whatever the flash has."""
 
     def __init__(self, library, seed, shape):
@@ -130,7 +130,7 @@ class Hostile(walk.Walk):
             self.most_kept = max(self.most_kept, sequence)
             self.expect("keep", self.call("keep"), "done")
         latest = max((it.sequence for it in self.attack.vendors), default=0)
-        here, elsewhere = (walk.right(latest + more, self.chance.choice((0, latest, latest + more)),
+        here, elsewhere = (store_walk.right(latest + more, self.chance.choice((0, latest, latest + more)),
                                       self.chance.randbytes(self.chance.randrange(1, self.area_size + 1))) for more in (1, 2))
         self.attack.vendors.append(here)
         self.take(here)

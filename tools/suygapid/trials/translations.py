@@ -1,7 +1,7 @@
 """What the tests of translations and of native code share: their options, what their programs read, and how they end."""
 import argparse
 
-import measure
+from suygapid.trials import measure
 
 INPUT = "00ff10203040506070809a0b0c0d0e0f11"
 
