@@ -264,10 +264,18 @@ static void test_handler_once(void) {
 
 /* ---- accesses anywhere */
 
+enum { NEAR = 1020 }; /* bytes beside the data that a data register may be */
+static const int bases[] = { 2, 3, 4, 29, 26, 31 }; /* the data registers of single masks; the first BASES are those of others */
+enum { NAMED = 3, BASES = 4 }; /* a source can name so many of them */
+
+static int base_count(void) {
+    return sandbox->single ? (int)(sizeof bases / sizeof *bases) : BASES;
+}
+
 /* Numbers at which something begins or ends: each power of two, and these places, with their neighbours. */
 static size_t edges(sfi_u32 found[], size_t room) {
-    const sfi_u32 places[] = { 0, sandbox->data_size, sandbox->data_size + SFI_ZONE, sandbox->data - SFI_ZONE, sandbox->data,
-        sandbox->data + sandbox->data_size, sandbox->data + sandbox->data_size + SFI_ZONE, sandbox->code };
+    const sfi_u32 places[] = { 0, sandbox->data_size, sandbox->data_size + SFI_ZONE, sandbox->data - SFI_ZONE, sandbox->data - NEAR, sandbox->data,
+        sandbox->data + sandbox->data_size, sandbox->data + sandbox->data_size + NEAR, sandbox->data + sandbox->data_size + SFI_ZONE, sandbox->code };
     size_t count = 0;
     for (sfi_u32 k = 0; k < 32 + sizeof places / sizeof *places; k++)
         for (sfi_u32 beside = 0; beside < 14 && count < room; beside++)
@@ -275,10 +283,17 @@ static size_t edges(sfi_u32 found[], size_t room) {
     return count;
 }
 
-/* Runs to accesses by sp, gp or tp with that number, which is no type's. Whether it trapped. */
+/* Whether native code may have that number in a data register: any where masks are single, else what its type has. */
+static int may_hold(sfi_u32 number) {
+    return sandbox->single || number - (sandbox->data - NEAR) < sandbox->data_size + 2 * NEAR;
+}
+
+/* Runs to accesses by each data register, of which one has that number. Whether it trapped. */
 static int try_plain(int base, sfi_u32 number) {
     struct world it = new_world(0, PLAIN), other = translated(0, BY_EXIT, 1000000);
     restart(&other, 0, PLAIN);
+    for (int k = NAMED; k < base_count(); k++) /* by which the accesses reach to both sides */
+        it.hart.x[bases[k]] = other.hart.x[bases[k]] = sandbox->data + sandbox->data_size / 2;
     it.hart.x[base] = other.hart.x[base] = number;
     take_turn(&it, 1000000);
     other.hart.left = 1000000;
@@ -289,7 +304,7 @@ static int try_plain(int base, sfi_u32 number) {
     return it.how == SFI_LOAD || it.how == SFI_STORE;
 }
 
-/* Where masks are single, native code may access whatever a data register holds: what isn't in the data traps, each time by a fault. */
+/* Native code accesses whatever a data register may hold: what isn't in the data traps, each time by a fault. */
 static void test_anywhere(void) {
     static sfi_u32 numbers[1000];
     const size_t count = edges(numbers, sizeof numbers / sizeof *numbers);
@@ -297,10 +312,13 @@ static void test_anywhere(void) {
     int traps = 0, runs = 0;
     action.sa_sigaction = later_handler;
     sigaction(SIGSEGV, &action, &before_later);
-    for (int base = 2; sandbox->single && base < 5; base++)
-        for (size_t k = 0; k < count; k++, runs++)
-            traps += try_plain(base, numbers[k]);
-    check(later_faults == traps && (traps > runs / 2 || !sandbox->single), "traps are faults");
+    for (int base = 0; base < base_count(); base++)
+        for (size_t k = 0; k < count; k++)
+            if (may_hold(numbers[k])) {
+                traps += try_plain(bases[base], numbers[k]);
+                runs++;
+            }
+    check(later_faults == traps && traps < runs && traps > (sandbox->single ? runs / 2 : 0), "traps are faults");
 }
 
 /* ---- maps and files */

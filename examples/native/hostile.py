@@ -1,11 +1,13 @@
 """Builds hosts that do to native code what might break it, hostile.c and hostile_signals.c, with each compiler and with sanitizers, and
 runs their tests. Beside them stands decode.c: what a host decodes when it runs is compared with the decoder of the tools.
 """
+import dataclasses
 import os
 import struct
 import subprocess
 
 import testing
+from suygapid.image import layout
 from suygapid.isa import decoding
 
 HERE = os.path.dirname(os.path.abspath(__file__))
@@ -26,10 +28,26 @@ BUILDS = (
     (("gcc", "-O1", "-g", "-fsanitize=thread"), WITH_HANDLERS | {"worlds"}),  # it has no room for as many windows of 4 GiB
     (("gcc", "-O1", "-g", "-fsanitize=address,undefined", "-fno-sanitize-recover"), {"stacks", "thread-forks"}),
 )
+# By the format, data registers that a source can't name: the accesses from hostile.s's `other` on are by these.
+OTHERS = {b"words": (29, 29, 29), b"single": (29, 26, 31)}
 SECONDS = 600  # that a test may take before it counts as hung
 PC = 0x40000
 OPCODES = (0x33, 0x33, 0x33, 0x13, 0x13, 0x03, 0x23, 0x63, 0x6F, 0x67, 0x37, 0x17)
 DECODED = 20000  # words of 32 bits
+
+
+def image_of(run, sfi, source, format):
+    """The image of hostile.s in this format, in hexadecimal."""
+    text = source.replace(b".format words", b".format " + format)
+    data = bytes.fromhex(run([sfi, "build"], text).decode())
+    (part,) = layout.parts(data)
+    (place,) = [int(line[-8:], 16) - part.code_base for line in run([sfi, "map"], text).splitlines() if b" code other at=" in line]
+    code = bytearray(part.code)
+    for at, register in zip(range(place, part.code_size, 4), OTHERS[format]):
+        word = struct.unpack_from("<I", code, at)[0]
+        struct.pack_into("<I", code, at, word & ~(31 << 15) | register << 15)
+        assert decoding.decode(code, at) == decoding.decode(part.code, at)._replace(rs1=register), "an access is by its base register"
+    return layout.spelled(data[:4], [dataclasses.replace(part, code=bytes(code))]).hex().encode()
 
 
 def tests(run, sfi, compilers, flags, folder):
@@ -38,7 +56,7 @@ def tests(run, sfi, compilers, flags, folder):
     with open(SOURCE, "rb") as file:
         source = file.read()
     for format, builds in ((b"words", BUILDS), (b"single", [BUILDS[0], *testing.by_turns(BUILDS[1:], 1)])):
-        image = run([sfi, "build"], source.replace(b".format words", b".format " + format))
+        image = image_of(run, sfi, source, format)
         for path, data in ((text, run([sfi, "translate"], image)), (native, run([sfi, "native"], image))):
             with open(path, "wb") as file:
                 file.write(data)

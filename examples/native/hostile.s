@@ -1,5 +1,5 @@
 # What hostile.c runs: a0 rounds that mix a2 and write and read the data; then, by a1, exit (0), a store above the data (1), a
-# load below them (-1), or accesses by sp, gp and tp as they are (2).
+# load below them (-1), or accesses by data registers as they are (2): hostile.py puts others into those from `other` on.
 .format words
 .sandbox 8192
 .gate exit 0
@@ -31,6 +31,9 @@ below:  lw   a3, -8(t3)
 plain:  lw   a3, -4(sp)
         sw   a4, 0(gp)
         lbu  a4, 2047(tp)
+other:  lw   a3, -2048(sp)
+        sh   a4, 2046(sp)
+        lbu  a4, -1(sp)
 leave:  li   a0, 0
         call exit
 .data
