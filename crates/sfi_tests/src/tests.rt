@@ -5,13 +5,11 @@ mod entering;
 mod guests;
 mod image;
 mod image_reading;
-mod native;
 mod options;
 mod rows;
 mod scan;
 mod stopping;
 mod stream;
-mod translation;
 mod worlds;
 
 use sfi_tool::run_tool;

@@ -1,6 +1,5 @@
 //! What differs where masks are single: x26 is a data register, and all that 32 bits and an offset can lead to is closed.
-use super::lines::part_of;
-use super::owed::line;
+use super::code::{line, part_of};
 use rv_word::{ImmOp, Instr, Reg, RegOp};
 use sfi_formats::Format;
 use sfi_native::{Layout, Plan, plan_of, push_computing_line};

@@ -1,12 +1,11 @@
 //! Lines of code, as the GNU assembler spells their instructions.
+use super::code::{addition, branch, call, jump_ahead, line, load, number, operation, part_of};
 use rv_word::{Cond, ImmOp, Instr, LoadKind, Reg, RegOp, StoreWidth};
 use sfi_formats::Format;
-use sfi_image::SandboxPart;
 use sfi_native::{
     Jump, Line, Plan, compile, push_branch_line, push_computing_line, push_head_line,
     push_jal_line, push_jalr_line, push_leave_line, push_line, push_load_line, push_store_line,
 };
-use std::alloc::Global;
 use std::test::Fail;
 
 // {rex} setl chooses among spellings of one instruction. x24 isn't written, and an ecall isn't computed.
@@ -29,26 +28,15 @@ const BYTES: [u8; 48] = [
 fn lines_are_spelled(rt: HostRuntime) -> Result<(), Fail> {
     let plan = Plan::in_frame(rt.alloc(), Format::Sfiw);
     let mut out = Vec::new(rt.alloc());
-    let (x5, x6, x7) = (Reg::numbered(5), Reg::numbered(6), Reg::numbered(7));
-    let add = Instr::Op {
-        op: RegOp::Add,
-        rd: x7,
-        rs1: x5,
-        rs2: x6,
-    };
-    assert!(rt; push_computing_line(&mut out, &plan, 0, 0, 0, add)?);
+    assert!(rt; push_computing_line(&mut out, &plan, 0, 0, 0, addition())?);
     let slti = Instr::OpImm {
         op: ImmOp::Slti,
         rd: Reg::numbered(31),
-        rs1: x5,
+        rs1: Reg::numbered(5),
         imm: -5,
     };
     assert!(rt; push_computing_line(&mut out, &plan, 4, 0, 0, slti)?);
-    let lui = Instr::Lui {
-        rd: Reg::numbered(24),
-        imm: 0xdeadb,
-    };
-    assert!(rt; push_computing_line(&mut out, &plan, 8, 0, 0, lui)?);
+    assert!(rt; push_computing_line(&mut out, &plan, 8, 0, 0, number())?);
     assert!(rt; !push_computing_line(&mut out, &plan, 12, 0, 0, Instr::Ecall)?);
     assert!(rt; out.as_slice() == BYTES.as_slice());
     Ok(())
@@ -82,40 +70,20 @@ const JUMPS: [u8; 94] = [
 fn jumps_are_spelled(rt: HostRuntime) -> Result<(), Fail> {
     let plan = Plan::in_frame(rt.alloc(), Format::Sfiw);
     let mut out = Vec::new(rt.alloc());
+    let (x1, x5, x6) = (Reg::numbered(1), Reg::numbered(5), Reg::numbered(6));
     let ahead = Jump {
-        from: 0x0100_0000,
-        to: 0x0100_0040,
-        label: 256,
-        exit: 4096,
         label_owed: 0,
+        ..jump_ahead()
     };
-    push_branch_line(
-        &mut out,
-        &plan,
-        0,
-        0,
-        Cond::Bgeu,
-        Reg::numbered(5),
-        Reg::numbered(6),
-        ahead,
-    )?;
+    push_branch_line(&mut out, &plan, 0, 0, Cond::Bgeu, x5, x6, ahead)?;
     let near = Jump {
         label: 0xffff_fff0,
         ..ahead
     };
-    push_jal_line(&mut out, &plan, 0, Reg::numbered(1), 0x0100_0004, near)?;
+    push_jal_line(&mut out, &plan, 0, x1, 0x0100_0004, near)?;
     push_head_line(&mut out, 0x0100_0080, 0, 4096)?;
     push_leave_line(&mut out, 0x0100_0084, 0, 4096)?;
-    push_jalr_line(
-        &mut out,
-        &plan,
-        0,
-        Reg::numbered(1),
-        Reg::numbered(5),
-        4,
-        0x0100_0004,
-        4042,
-    )?;
+    push_jalr_line(&mut out, &plan, 0, x1, x5, 4, 0x0100_0004, 4042)?;
     assert!(rt; out.as_slice() == JUMPS.as_slice());
     Ok(())
 }
@@ -135,26 +103,9 @@ const ACCESSES: [u8; 38] = [
 fn accesses_are_spelled(rt: HostRuntime) -> Result<(), Fail> {
     let plan = Plan::in_frame(rt.alloc(), Format::Sfiw);
     let mut out = Vec::new(rt.alloc());
-    push_load_line(
-        &mut out,
-        &plan,
-        0,
-        0,
-        LoadKind::Lb,
-        Reg::numbered(10),
-        Reg::numbered(2),
-        0xffff_fffc,
-    )?;
-    push_store_line(
-        &mut out,
-        &plan,
-        0,
-        0,
-        StoreWidth::Sw,
-        Reg::numbered(2),
-        Reg::numbered(11),
-        256,
-    )?;
+    let (x2, x10, x11) = (Reg::numbered(2), Reg::numbered(10), Reg::numbered(11));
+    push_load_line(&mut out, &plan, 0, 0, LoadKind::Lb, x10, x2, 0xffff_fffc)?;
+    push_store_line(&mut out, &plan, 0, 0, StoreWidth::Sw, x2, x11, 256)?;
     assert!(rt; out.as_slice() == ACCESSES.as_slice());
     Ok(())
 }
@@ -213,13 +164,7 @@ fn divisions_are_spelled(rt: HostRuntime) -> Result<(), Fail> {
     let plan = Plan::in_frame(rt.alloc(), Format::Sfiw);
     let mut out = Vec::new(rt.alloc());
     for op in [RegOp::Div, RegOp::Remu, RegOp::Rem, RegOp::Divu] {
-        let division = Instr::Op {
-            op,
-            rd: Reg::numbered(7),
-            rs1: Reg::numbered(5),
-            rs2: Reg::numbered(6),
-        };
-        assert!(rt; push_computing_line(&mut out, &plan, 0, 0, 0, division)?);
+        assert!(rt; push_computing_line(&mut out, &plan, 0, 0, 0, operation(op))?);
     }
     assert!(rt; out.as_slice() == DIVISIONS.as_slice());
     Ok(())
@@ -238,53 +183,13 @@ fn jump_register() -> Instr {
 fn each_kind_of_line_is_spelled(rt: HostRuntime) -> Result<(), Fail> {
     let plan = Plan::in_frame(rt.alloc(), Format::Sfiw);
     let mut out = Vec::new(rt.alloc());
-    let branch = Instr::Branch {
-        cond: Cond::Bgeu,
-        rs1: Reg::numbered(5),
-        rs2: Reg::numbered(6),
-        offset: 64,
-    };
-    let jal = Instr::Jal {
-        rd: Reg::numbered(1),
-        offset: 64,
-    };
-    let (at, size) = (0x0100_0000, 4);
+    let at = 0x0100_0000;
     push_line(&mut out, &plan, Line::Function { sandbox: 0, at }, 0, 0)?;
-    push_line(
-        &mut out,
-        &plan,
-        Line::Does {
-            at,
-            size,
-            instr: branch,
-        },
-        256,
-        0,
-    )?;
-    push_line(
-        &mut out,
-        &plan,
-        Line::Does {
-            at,
-            size,
-            instr: jal,
-        },
-        0xffff_fff0,
-        0,
-    )?;
+    push_line(&mut out, &plan, line(0, 4, branch(Cond::Bgeu, 64)), 256, 0)?;
+    push_line(&mut out, &plan, line(0, 4, call(64)), 0xffff_fff0, 0)?;
     push_line(&mut out, &plan, Line::Head { at: at + 128 }, 0, 4096)?;
-    let ecall = Line::Does {
-        at: at + 132,
-        size,
-        instr: Instr::Ecall,
-    };
-    push_line(&mut out, &plan, ecall, 0, 4096)?;
-    let jalr = Line::Does {
-        at,
-        size,
-        instr: jump_register(),
-    };
-    push_line(&mut out, &plan, jalr, 0, 4096)?;
+    push_line(&mut out, &plan, line(132, 4, Instr::Ecall), 0, 4096)?;
+    push_line(&mut out, &plan, line(0, 4, jump_register()), 0, 4096)?;
     assert!(rt; out.as_slice() == JUMPS.as_slice());
     Ok(())
 }
@@ -327,55 +232,16 @@ const COMPILED: [u8; 148] = [
 // 1, 3 and 2 above, where nothing is owed
 const ENTRIES: [u32; 6] = [20, 0, 38, 0, 47, 0];
 
-/// A sandbox of that code, at 0x01000000.
-pub(super) fn part_of(alloc: Global, code: &[u8]) -> SandboxPart<'_> {
-    SandboxPart {
-        code_base: 0x0100_0000,
-        data_base: 0x0200_0000,
-        data_size: 4096,
-        start: 0x0100_0000,
-        gates: Vec::new(alloc),
-        code,
-        init: &[],
-    }
-}
-
 #[test]
 fn code_is_compiled(rt: HostRuntime) -> Result<(), Fail> {
     let plan = Plan::in_frame(rt.alloc(), Format::Sfiw);
     let at = 0x0100_0000;
-    let branch = Instr::Branch {
-        cond: Cond::Bgeu,
-        rs1: Reg::numbered(5),
-        rs2: Reg::numbered(6),
-        offset: 8,
-    };
-    let lui = Instr::Lui {
-        rd: Reg::numbered(24),
-        imm: 0xdeadb,
-    };
-    let jal = Instr::Jal {
-        rd: Reg::numbered(1),
-        offset: -8,
-    };
     let lines = [
         Line::Function { sandbox: 0, at },
         Line::Head { at },
-        Line::Does {
-            at,
-            size: 4,
-            instr: branch,
-        },
-        Line::Does {
-            at: at + 4,
-            size: 4,
-            instr: lui,
-        },
-        Line::Does {
-            at: at + 8,
-            size: 4,
-            instr: jal,
-        },
+        line(0, 4, branch(Cond::Bgeu, 8)),
+        line(4, 4, number()),
+        line(8, 4, call(-8)),
     ];
     let part = part_of(rt.alloc(), &[0; 12]);
     let Some(compiled) = compile(rt.alloc(), Format::Sfiw, &part, &plan, lines.as_slice())? else {
@@ -397,12 +263,6 @@ const STORE_OFFSET: u32 = 4 + 5 + 4 + 4 + 3 + 4;
 fn accesses_are_told(rt: HostRuntime) -> Result<(), Fail> {
     let plan = Plan::in_frame(rt.alloc(), Format::Sfiw);
     let at = 0x0100_0000;
-    let load = Instr::Load {
-        kind: LoadKind::Lw,
-        rd: Reg::numbered(5),
-        rs1: Reg::numbered(2),
-        imm: 8,
-    };
     let store = Instr::Store {
         width: StoreWidth::Sh,
         rs1: Reg::numbered(0),
@@ -410,17 +270,9 @@ fn accesses_are_told(rt: HostRuntime) -> Result<(), Fail> {
         imm: -4,
     };
     let lines = [
-        Line::Does {
-            at,
-            size: 4,
-            instr: load,
-        },
+        line(0, 4, load()),
         Line::Entry { at: at + 4 },
-        Line::Does {
-            at: at + 4,
-            size: 4,
-            instr: store,
-        },
+        line(4, 4, store),
     ];
     let part = part_of(rt.alloc(), &[0; 8]);
     let Some(compiled) = compile(rt.alloc(), Format::Sfiw, &part, &plan, lines.as_slice())? else {

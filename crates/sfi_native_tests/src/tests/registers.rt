@@ -1,6 +1,5 @@
 //! Lines by a map of registers, as the GNU assembler spells their instructions, maps that aren't right, and those that are chosen.
-use super::lines::part_of;
-use super::owed::line;
+use super::code::{call, jump_ahead, line, part_of};
 use rv_word::{Cond, ImmOp, Instr, LoadKind, Reg, RegOp, StoreWidth};
 use sfi_formats::Format;
 use sfi_native::{
@@ -116,16 +115,8 @@ fn accesses_are_spelled_by_a_map(rt: HostRuntime) -> Result<(), Fail> {
     let (x2, x10) = (Reg::numbered(2), Reg::numbered(10));
     push_load_line(&mut out, &plan, 0, 0, LoadKind::Lb, x10, x2, 0xffff_fffc)?;
     push_load_line(&mut out, &plan, 0, 0, LoadKind::Lw, Reg::numbered(6), x2, 8)?;
-    push_store_line(
-        &mut out,
-        &plan,
-        0,
-        0,
-        StoreWidth::Sb,
-        x2,
-        Reg::numbered(7),
-        0,
-    )?;
+    let x7 = Reg::numbered(7);
+    push_store_line(&mut out, &plan, 0, 0, StoreWidth::Sb, x2, x7, 0)?;
     push_store_line(&mut out, &plan, 0, 0, StoreWidth::Sw, x10, x2, 4)?;
     assert!(rt; out.as_slice() == ACCESSES_BY_MAP.as_slice());
     Ok(())
@@ -140,23 +131,13 @@ const BRANCH_BY_MAP: [u8; 14] = [
 #[test]
 fn branches_are_spelled_by_a_map(rt: HostRuntime) -> Result<(), Fail> {
     let mut out = Vec::new(rt.alloc());
+    let plan = some_registers(rt.alloc());
+    let (x0, x5) = (Reg::numbered(0), Reg::numbered(5));
     let ahead = Jump {
-        from: 0x0100_0000,
-        to: 0x0100_0040,
-        label: 256,
-        exit: 4096,
         label_owed: 0,
+        ..jump_ahead()
     };
-    push_branch_line(
-        &mut out,
-        &some_registers(rt.alloc()),
-        0,
-        0,
-        Cond::Bgeu,
-        Reg::numbered(5),
-        Reg::numbered(0),
-        ahead,
-    )?;
+    push_branch_line(&mut out, &plan, 0, 0, Cond::Bgeu, x5, x0, ahead)?;
     assert!(rt; out.as_slice() == BRANCH_BY_MAP.as_slice());
     Ok(())
 }
@@ -185,7 +166,6 @@ fn registers_of_called_functions_come_first(rt: HostRuntime) -> Result<(), Fail>
         rs1: Reg::numbered(r),
         rs2: Reg::numbered(r),
     };
-    let call = Instr::Jal { rd: x1, offset: 12 };
     let back = Instr::Branch {
         cond: Cond::Beq,
         rs1: x0,
@@ -199,7 +179,7 @@ fn registers_of_called_functions_come_first(rt: HostRuntime) -> Result<(), Fail>
     };
     let lines = [
         line(0, 4, double(6)),
-        line(4, 4, call),
+        line(4, 4, call(12)),
         line(8, 4, back),
         line(12, 4, Instr::Ebreak),
         line(16, 4, double(5)),

@@ -1,7 +1,6 @@
 //! Nops before instructions, and where they are wanted.
-use super::lines::part_of;
-use super::owed::{addition, line, load};
-use rv_word::{Cond, Instr, Reg};
+use super::code::{addition, branch, line, load, part_of};
+use rv_word::Cond;
 use sfi_formats::Format;
 use sfi_native::{Plan, compile, plan_of};
 use std::test::Fail;
@@ -46,17 +45,11 @@ fn nops_stand_before_instructions(rt: HostRuntime) -> Result<(), Fail> {
 /// Behind seven additions of four bytes, in rbx, rbp and rsi, the comparison and jcc of a branch are at 28 to 36.
 #[test]
 fn jumps_stand_off_borders(rt: HostRuntime) -> Result<(), Fail> {
-    let back = Instr::Branch {
-        cond: Cond::Bne,
-        rs1: Reg::numbered(5),
-        rs2: Reg::numbered(6),
-        offset: -28,
-    };
     let mut lines = Vec::new(rt.alloc());
     for n in 0..7 {
         lines.push(line(4 * n, 4, addition()))?;
     }
-    lines.push(line(28, 4, back))?;
+    lines.push(line(28, 4, branch(Cond::Bne, -28)))?;
     lines.push(line(32, 4, addition()))?;
     let part = part_of(rt.alloc(), &[0; 36]);
     let plan = plan_of(rt.alloc(), Format::Sfiw, &part, lines.as_slice())?;

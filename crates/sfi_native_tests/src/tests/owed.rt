@@ -1,6 +1,6 @@
 //! Lines that count steps late, as the GNU assembler spells their instructions, and the numbers of steps that are owed.
-use super::lines::part_of;
-use rv_word::{Cond, Instr, LoadKind, Reg, RegOp, StoreWidth};
+use super::code::{addition, branch, jump_ahead, line, load, part_of};
+use rv_word::{Cond, Instr, LoadKind, Reg, StoreWidth};
 use sfi_formats::Format;
 use sfi_native::{
     Jump, Line, Plan, compile, plan_of, push_branch_line, push_computing_line, push_head_line,
@@ -91,11 +91,8 @@ const JUMPS: [u8; 130] = [
 fn push_jumps(out: &mut Vec<u8>, plan: &Plan) -> Result<(), Fail> {
     let (x1, x5, x6) = (Reg::numbered(1), Reg::numbered(5), Reg::numbered(6));
     let ahead = Jump {
-        from: 0x0100_0000,
-        to: 0x0100_0040,
-        label: 256,
-        exit: 4096,
         label_owed: 3,
+        ..jump_ahead()
     };
     push_branch_line(out, plan, 2, 1, Cond::Bgeu, x5, x6, ahead)?;
     let back = Jump {
@@ -115,16 +112,8 @@ fn jumps_count_by_their_labels(rt: HostRuntime) -> Result<(), Fail> {
     push_jumps(&mut out, &plan)?;
     push_head_line(&mut out, 0x0100_0080, 7, 4096)?;
     push_leave_line(&mut out, 0x0100_0084, 8, 4096)?;
-    push_jalr_line(
-        &mut out,
-        &plan,
-        62,
-        Reg::numbered(1),
-        Reg::numbered(5),
-        4,
-        0x0100_0004,
-        4054,
-    )?;
+    let (x1, x5) = (Reg::numbered(1), Reg::numbered(5));
+    push_jalr_line(&mut out, &plan, 62, x1, x5, 4, 0x0100_0004, 4054)?;
     assert!(rt; out.as_slice() == JUMPS.as_slice());
     Ok(())
 }
@@ -164,35 +153,6 @@ const COMPILED: [u8; 129] = [
 // The three lines behind the head; one step is owed at two of them.
 const ENTRIES: [u32; 6] = [20, 0, 32, 1, 49, 1];
 
-/// x7 gets the sum of x5 and x6.
-pub(super) fn addition() -> Instr {
-    Instr::Op {
-        op: RegOp::Add,
-        rd: Reg::numbered(7),
-        rs1: Reg::numbered(5),
-        rs2: Reg::numbered(6),
-    }
-}
-
-/// x5 gets the word 8 bytes behind x2.
-pub(super) fn load() -> Instr {
-    Instr::Load {
-        kind: LoadKind::Lw,
-        rd: Reg::numbered(5),
-        rs1: Reg::numbered(2),
-        imm: 8,
-    }
-}
-
-/// The line of an instruction so many bytes behind 0x01000000.
-pub(super) fn line(offset: u32, size: u32, instr: Instr) -> Line {
-    Line::Does {
-        at: 0x0100_0000_u32.wrapping_add(offset),
-        size,
-        instr,
-    }
-}
-
 #[test]
 fn code_counts_late(rt: HostRuntime) -> Result<(), Fail> {
     let mut plan = Plan::in_frame(rt.alloc(), Format::Sfiw);
@@ -219,12 +179,6 @@ fn code_counts_late(rt: HostRuntime) -> Result<(), Fail> {
 
 #[test]
 fn maps_owe_what_was_not_counted(rt: HostRuntime) -> Result<(), Fail> {
-    let back = Instr::Branch {
-        cond: Cond::Bne,
-        rs1: Reg::numbered(5),
-        rs2: Reg::numbered(6),
-        offset: -4,
-    };
     let lines = [
         Line::Head { at: 0x0100_0000 },
         line(0, 4, addition()),
@@ -232,7 +186,7 @@ fn maps_owe_what_was_not_counted(rt: HostRuntime) -> Result<(), Fail> {
         line(6, 2, load()),
         line(8, 4, addition()),
         line(12, 4, addition()),
-        line(16, 4, back),
+        line(16, 4, branch(Cond::Bne, -4)),
         line(20, 4, addition()),
     ];
     let part = part_of(rt.alloc(), &[0; 24]);
@@ -246,19 +200,12 @@ fn maps_owe_what_was_not_counted(rt: HostRuntime) -> Result<(), Fail> {
 /// A line that jumps ahead, and one that falls through to where that leads.
 #[test]
 fn maps_owe_at_labels_as_jumps_do(rt: HostRuntime) -> Result<(), Fail> {
-    let (x5, x6) = (Reg::numbered(5), Reg::numbered(6));
-    let ahead = |offset| Instr::Branch {
-        cond: Cond::Beq,
-        rs1: x5,
-        rs2: x6,
-        offset,
-    };
     let lines = [
-        line(0, 4, ahead(12)),
+        line(0, 4, branch(Cond::Beq, 12)),
         line(4, 4, addition()),
         line(8, 4, load()),
         line(12, 4, addition()),
-        line(16, 4, ahead(-16)),
+        line(16, 4, branch(Cond::Beq, -16)),
         line(20, 4, Instr::Ebreak),
         line(24, 4, addition()),
     ];

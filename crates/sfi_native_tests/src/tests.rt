@@ -1,0 +1,7 @@
+mod code;
+mod lines;
+mod owed;
+mod padding;
+mod registers;
+mod single;
+mod translation;
