@@ -1,16 +1,10 @@
-mod adding;
 mod build;
-mod consoles;
-mod entering;
-mod guests;
 mod image;
 mod image_reading;
 mod options;
 mod rows;
 mod scan;
-mod stopping;
 mod stream;
-mod worlds;
 
 use sfi_tool::run_tool;
 use std::alloc::{AllocError, Global};

@@ -53,7 +53,6 @@ use std::alloc::Global;
 use std::process::Abort;
 use std::str::from_utf8;
 use std::test::Fail;
-pub(super) use texts::text_named;
 
 /// What a row says but for its commands: what they read, the digits of their `--input`, what they
 /// have to print (`ANY` in it stands for any text), and the status in which they have to end.

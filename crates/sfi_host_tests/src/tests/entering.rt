@@ -1,24 +1,13 @@
-//! The world of the smallest image: what is asked of it, its data from outside, and how its sandbox
-//! is entered again.
+//! A world of one sandbox: what is asked of it, its data from outside, and how the sandbox is entered again.
 use super::guests::{DATA, REGION};
-use super::rows::image_of;
+use super::texts::{TRAPS, world_of};
 use rv_mem::{Memory, Segments, Width};
 use rv_step::Cause;
 use rv_word::Reg;
-use sfi_build::build;
-use sfi_check::check;
 use sfi_host::{Console, RunAnswer, Status, Turn, World};
 use std::alloc::Global;
 use std::process::Abort;
 use std::test::Fail;
-
-/// The world of the smallest image: one sandbox, whose code at 01000000 is 64 times `ebreak`, with
-/// 256 data bytes at `DATA`.
-pub(super) fn smallest_world(rt: &impl Abort, alloc: Global) -> Result<World<Segments>, Fail> {
-    let bytes = image_of(alloc, "")?;
-    let accepted = check(alloc, bytes.as_slice()).expect(rt, "accepted");
-    Ok(World::load(alloc, &accepted, Segments::new(alloc))?)
-}
 
 /// Whether the world has one sandbox, which is at its start and has taken no step.
 fn is_fresh(world: &World<Segments>) -> bool {
@@ -36,7 +25,7 @@ fn is_fresh(world: &World<Segments>) -> bool {
 /// A loaded sandbox is at its start, with its data mask in x27.
 #[test]
 fn a_world_before_its_first_turn(rt: HostRuntime) -> Result<(), Fail> {
-    let world = smallest_world(&rt, rt.alloc())?;
+    let world = world_of(&rt, rt.alloc(), TRAPS)?;
     assert!(rt; is_fresh(&world));
     Ok(())
 }
@@ -52,7 +41,7 @@ const BYTES: &[(u32, Option<u8>)] = &[
 /// `data_byte` gives the data's bytes, and `None` for an address outside the data region.
 #[test]
 fn data_of_a_world(rt: HostRuntime) -> Result<(), Fail> {
-    let world = smallest_world(&rt, rt.alloc())?;
+    let world = world_of(&rt, rt.alloc(), TRAPS)?;
     for (address, byte) in BYTES {
         assert_eq!(rt; world.data_byte(0, *address), *byte);
     }
@@ -75,9 +64,9 @@ fn has_trapped(world: &World<Segments>, address: u32) -> bool {
 /// A plan with turns of a sandbox that isn't there, of one that traps, and of that again: the first
 /// and the last change nothing. The memory then holds the code, and nothing in a guard zone.
 #[test]
-fn the_smallest_image_traps(rt: HostRuntime) -> Result<(), Fail> {
+fn a_sandbox_traps(rt: HostRuntime) -> Result<(), Fail> {
     let mut console = Console::new(rt.alloc(), 1, &[])?;
-    let mut world = smallest_world(&rt, rt.alloc())?;
+    let mut world = world_of(&rt, rt.alloc(), TRAPS)?;
     let turns = [turn(1), turn(0), turn(0)];
     assert_eq!(rt; world.run_plan(&turns, &mut console), RunAnswer::Done);
     world.stays_safe();
@@ -103,7 +92,7 @@ fn knows_none(world: &World<Segments>, sandbox: u32) -> bool {
 /// Sandboxes count from 0, so a world of one has no sandbox 1.
 #[test]
 fn no_sandbox_is_there(rt: HostRuntime) -> Result<(), Fail> {
-    let world = smallest_world(&rt, rt.alloc())?;
+    let world = world_of(&rt, rt.alloc(), TRAPS)?;
     assert!(rt; knows_none(&world, 1));
     Ok(())
 }
@@ -131,7 +120,7 @@ fn is_read(world: &World<Segments>) -> bool {
 /// A host reads and writes a sandbox's data, but nothing else.
 #[test]
 fn data_are_read_and_written_from_outside(rt: HostRuntime) -> Result<(), Fail> {
-    let mut world = smallest_world(&rt, rt.alloc())?;
+    let mut world = world_of(&rt, rt.alloc(), TRAPS)?;
     assert!(rt; is_written(&mut world));
     assert!(rt; is_read(&world));
     Ok(())
@@ -166,7 +155,7 @@ fn enters_only_at_bundles(world: &mut World<Segments>) -> bool {
 #[test]
 fn a_sandbox_is_entered_again(rt: HostRuntime) -> Result<(), Fail> {
     let alloc = rt.alloc();
-    let mut world = smallest_world(&rt, alloc)?;
+    let mut world = world_of(&rt, alloc, TRAPS)?;
     assert!(rt; !world.enter(0, 0x0100_0010, &ARGUMENTS));
     turned(&mut world, alloc)?;
     assert!(rt; enters_only_at_bundles(&mut world));
@@ -196,7 +185,7 @@ const REGISTERS: &[(u8, u32)] = &[
 #[test]
 fn an_entered_sandbox_has_fresh_registers(rt: HostRuntime) -> Result<(), Fail> {
     let alloc = rt.alloc();
-    let mut world = smallest_world(&rt, alloc)?;
+    let mut world = world_of(&rt, alloc, TRAPS)?;
     turned(&mut world, alloc)?;
     assert!(rt; world.enter(0, 0x0100_0010, &ARGUMENTS));
     let cpu = world.cpu(0).expect(&rt, "a sandbox");
@@ -222,9 +211,7 @@ sum:    add  a0, a0, a1
 #[test]
 fn a_function_returns_by_the_gate_of_exit(rt: HostRuntime) -> Result<(), Fail> {
     let alloc = rt.alloc();
-    let image = build(alloc, SUM).expect(&rt, "built");
-    let accepted = check(alloc, image.as_slice()).expect(&rt, "accepted");
-    let mut world = World::load(alloc, &accepted, Segments::new(alloc))?;
+    let mut world = world_of(&rt, alloc, SUM)?;
     assert_eq!(rt; turned(&mut world, alloc)?, Some(Status::Exited(0)));
     assert!(rt; world.enter(0, 0x0100_0030, &ARGUMENTS));
     let cpu = world.cpu(0).expect(&rt, "a sandbox");
@@ -265,9 +252,7 @@ fn a_function_has_the_room_that_its_image_asks_for(rt: HostRuntime) -> Result<()
             ".sandbox 256\nebreak\n.data\n.word {room}\n\
             .byte {name}\n.word 0, 0, 10\n.byte {magic}\n"
         )?;
-        let image = build(alloc, text.as_str()).expect(&rt, "built");
-        let accepted = check(alloc, image.as_slice()).expect(&rt, "accepted");
-        let mut world = World::load(alloc, &accepted, Segments::new(alloc))?;
+        let mut world = world_of(&rt, alloc, text.as_str())?;
         assert_eq!(rt; stack_of(&rt, &world), DATA + 240);
         assert!(rt; world.stop(0));
         assert!(rt; world.enter(0, 0x0100_0000, &ARGUMENTS));

@@ -1,15 +1,12 @@
-//! Worlds over `Segments`. `sfi run`, which the rows of rows/runs.rt try, has its worlds over
+//! Worlds over `Segments`. `sfi run`, which the rows of `sfi_tests` try, has its worlds over
 //! `Pages`: what a plan, a list of turns, leads to has to be the same.
-use super::rows::text_named;
-use rv_mem::Segments;
-use sfi_build::build;
-use sfi_check::check;
-use sfi_host::{Console, RunAnswer, Status, Turn, World};
+use super::texts::{HI, READS, YIELDS, world_of};
+use sfi_host::{Console, RunAnswer, Status, Turn};
 use std::alloc::{AllocError, Global};
 use std::process::Abort;
 use std::test::Fail;
 
-// A text's name and its input, the turns of its one sandbox and their steps, and that sandbox's state, steps and output.
+// A text and its input, the turns of its one sandbox and their steps, and that sandbox's state, steps and output.
 struct Case(
     &'static str,
     &'static [u8],
@@ -19,14 +16,14 @@ struct Case(
     &'static [u8],
 );
 
-/// The rows of `RUNS` in rows/runs.rt have the same states, steps and outputs.
+/// The rows of `RUNS` in `sfi_tests` src/tests/rows/runs.rt have the same states, steps and outputs.
 const CASES: &[Case] = &[
-    Case("hi", b"", (1, 1000), Status::Exited(105), 19, b"Hi"),
-    Case("hi", b"", (1000, 1), Status::Exited(105), 19, b"Hi"),
-    Case("yields", b"", (3, 1000), Status::Ready, 32, b""),
-    Case("yields", b"", (3, 8), Status::Ready, 20, b""),
-    Case("reads", b"abc", (1, 1000), Status::Exited(2), 16, b""),
-    Case("reads", b"", (1, 1000), Status::Exited(0), 16, b""),
+    Case(HI, b"", (1, 1000), Status::Exited(105), 19, b"Hi"),
+    Case(HI, b"", (1000, 1), Status::Exited(105), 19, b"Hi"),
+    Case(YIELDS, b"", (3, 1000), Status::Ready, 32, b""),
+    Case(YIELDS, b"", (3, 8), Status::Ready, 20, b""),
+    Case(READS, b"abc", (1, 1000), Status::Exited(2), 16, b""),
+    Case(READS, b"", (1, 1000), Status::Exited(0), 16, b""),
 ];
 
 /// A plan for sandbox 0. `turns` is how many turns it has, and the most steps of each.
@@ -42,11 +39,8 @@ fn plan_of(alloc: Global, turns: (u32, u32)) -> Result<Vec<Turn>, AllocError> {
 /// Builds and runs the case's text by its plan, and compares status, steps and output with the
 /// case's.
 fn try_case(rt: &impl Abort, alloc: Global, case: &Case) -> Result<(), AllocError> {
-    let Case(name, input, turns, status, steps, output) = case;
-    let text = text_named(name).expect(rt, "a text");
-    let image = build(alloc, text).expect(rt, "built");
-    let accepted = check(alloc, image.as_slice()).expect(rt, "accepted");
-    let mut world = World::load(alloc, &accepted, Segments::new(alloc))?;
+    let Case(text, input, turns, status, steps, output) = case;
+    let mut world = world_of(rt, alloc, text)?;
     let plan = plan_of(alloc, *turns)?;
     let mut console = Console::new(alloc, 1, input)?;
     let answer = world.run_plan(plan.as_slice(), &mut console);

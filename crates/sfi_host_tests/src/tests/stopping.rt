@@ -1,11 +1,9 @@
 //! Sandboxes that their host stops, and what is left of them, as `World::stop` documents it.
-use super::entering::{ARGUMENTS, smallest_world, turn, turned};
+use super::entering::{ARGUMENTS, turn, turned};
 use super::guests::DATA;
-use super::rows::text_named;
+use super::texts::{HI, TRAPS, world_of};
 use rv_mem::Segments;
 use rv_step::Cause;
-use sfi_build::build;
-use sfi_check::check;
 use sfi_host::{Later, Status, World};
 use std::alloc::Global;
 use std::process::Abort;
@@ -24,7 +22,7 @@ fn is_stopped(world: &World<Segments>) -> bool {
 /// then.
 #[test]
 fn a_ready_sandbox_is_stopped(rt: HostRuntime) -> Result<(), Fail> {
-    let mut world = smallest_world(&rt, rt.alloc())?;
+    let mut world = world_of(&rt, rt.alloc(), TRAPS)?;
     assert!(rt; world.write(0, DATA + 5, &[7]));
     assert!(rt; !world.stop(1));
     assert!(rt; world.stop(0));
@@ -39,7 +37,7 @@ fn a_ready_sandbox_is_stopped(rt: HostRuntime) -> Result<(), Fail> {
 #[test]
 fn a_stopped_sandbox_takes_no_turn_and_is_entered_again(rt: HostRuntime) -> Result<(), Fail> {
     let alloc = rt.alloc();
-    let mut world = smallest_world(&rt, alloc)?;
+    let mut world = world_of(&rt, alloc, TRAPS)?;
     assert!(rt; world.write(0, DATA + 5, &[7]));
     assert!(rt; world.stop(0));
     assert_eq!(rt; turned(&mut world, alloc)?, Some(Status::Stopped));
@@ -55,10 +53,7 @@ fn a_stopped_sandbox_takes_no_turn_and_is_entered_again(rt: HostRuntime) -> Resu
 /// The world of the text `hi`, which writes two letters, with its sandbox waiting for the reply to
 /// its first call, a put.
 fn waiting_world(rt: &impl Abort, alloc: Global) -> Result<World<Segments>, Fail> {
-    let text = text_named("hi").expect(rt, "a text");
-    let image = build(alloc, text).expect(rt, "built");
-    let accepted = check(alloc, image.as_slice()).expect(rt, "accepted");
-    let mut world = World::load(alloc, &accepted, Segments::new(alloc))?;
+    let mut world = world_of(rt, alloc, HI)?;
     assert!(rt;
         world
             .run_to_call(turn(0))

@@ -6,7 +6,7 @@ use Rattle.rv_mem.proofs.Facts.{written_is_there}
 use Rattle.sfi_image.specs.declared.span.Span.{Span}
 use Rattle.sfi_host.specs.Slots.{bytes_in, IsWhole}
 use Rattle.sfi_host.proofs.RegionBytes.{byte_in, is_in-Holds}
-use Rattle.sfi_tests.proofs.tests.guests.memory.Goals as goal
+use Rattle.sfi_host_tests.proofs.tests.guests.memory.Goals as goal
 
 -- a region that was added is whole
 added_whole : (m : Bytes) (base size : ℕ) (front : List ℕ) → base + size ≤ 2 ^ 32 → length front ≤ size

@@ -1,0 +1,7 @@
+mod adding;
+mod consoles;
+mod entering;
+mod guests;
+mod stopping;
+mod texts;
+mod worlds;
