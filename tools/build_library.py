@@ -10,7 +10,8 @@ WebAssembly, which sfi_run has no heap for, the module sfi.wasm.
 
 `rt ci` proves the crate, but builds no static library. It leaves the libraries that it stands on without the mark
 by which `rt lib` would take them, so that `rt lib` would prove them once more. This proves the crate alone and builds
-it, as `rt lib` does, by the toolchain's own module, for all targets side by side. Where a library has the mark,
+it, as `rt lib` does, by the toolchain's own module. What it proves for one target it keeps, as `rt lib` does, and takes for the
+others, which it then builds side by side. Where a library has the mark,
 `rt ci` gave back what earlier checks kept: `rt lib` has little to prove then, and is called, once for each target.
 """
 import copy
@@ -49,25 +50,30 @@ def build_again(name, folder):
     return 0
 
 
+def kept_words(rtlib):
+    """The words by which rattle keeps what it proves of a crate, and takes it in the next build; none where a kit has none."""
+    return rtlib.KEPT if rtlib.libraries_keep() else []
+
+
 def build_for(rtlib, name, crate, target):
     """Proves the crate and builds it for a target, as `rt lib` does, and prints what rt has to say once it has ended."""
-    words = crate.words(["--jobs", "1"], keeps=False)
+    words = [*crate.words(["--jobs", "1"], keeps=False), *kept_words(rtlib)]
     made = ["--toolchain", f"{rtlib.KIT}/toolchain", "--backend", "llvm"]
     crate = copy.copy(crate)
-    crate.is_wasm = target == WASM  # rt holds what rattle says of the target to it
     with tempfile.TemporaryFile("w+", errors="replace") as crate.out:
-        status = crate.prove(["build", *words, "--target", target, *made, "-o", archive_of(name, target)])
+        status = crate.call(rtlib.RATTLE, "build", *words, "--target", target, *made, "-o", archive_of(name, target))
         crate.out.seek(0)
         print(f"== {name} for {target}\n{crate.out.read()}", end="", flush=True)
     return status
 
 
 def build_proved(rtlib, name, crate):
-    """Proves the crate and builds it, for all targets side by side."""
+    """Proves the crate and builds it for each target: for the first alone, for the others side by side."""
     rtlib.guarded()  # what it starts ends with it
     held = rtlib.lock([*crate.below(), crate])
     with ThreadPoolExecutor(len(TARGETS[name])) as pool:
-        statuses = list(pool.map(lambda target: build_for(rtlib, name, crate, target), TARGETS[name]))
+        statuses = [build_for(rtlib, name, crate, TARGETS[name][0])]
+        statuses += pool.map(lambda target: build_for(rtlib, name, crate, target), TARGETS[name][1:])
     for lock in held:
         os.close(lock)
     return max(statuses)

@@ -91,7 +91,10 @@ wait_for_groups() {
 }
 
 make_and_tell() { # as start_making
-    "${@:2}"
+    local seconds user system TIMEFORMAT='%0R %0U %0S'
+    { time "${@:2}" 2>&1; } 2>"$room/$1.seconds"
+    read -r seconds user system <"$room/$1.seconds"
+    echo "took $seconds $((user + system)) making $1" >>"$times"
     touch "$room/$1"
 }
 

@@ -204,6 +204,9 @@ class SideBySide(unittest.TestCase):
     def test_one_at_a_time(self):
         printed, log = self.run_with(1)
         self.assertEqual(printed, PRINTED + RESULTS)
+        with open(f"{self.room}/times", encoding="utf-8") as file:
+            seconds = [int(it.split(" ", 3)[1]) for it in file if it.endswith(" making modules\n")]
+        self.assertEqual([it >= 2 for it in seconds], [True])
         begun = [it for it in log if it != "modules"]
         self.assertEqual(begun, [f"{it} {step}" for it in ("first", "second", "third", "fourth", "fifth") for step in ("begins", "ends")])
         self.assertLess(log.index("modules"), log.index("third begins"))

@@ -107,10 +107,11 @@ def keeping_toolchain(kit, kept, room):
 
 
 def keep_module(rtlib, name):
-    """Proves the crate, builds its library for x86-64, as `rt lib` does, and keeps its LLVM module. What earlier checks kept
-    of it counts if what they kept of the crates below does: rattle builds none but a proved crate."""
+    """Proves the crate, builds its library for x86-64, as `rt lib` does, and keeps its LLVM module: rattle builds none but a
+    proved crate, and takes what tools/build_library.py proved of it."""
     crate = rtlib.Crate(os.path.join(toolchain.TOP, "crates", name), toolchain.TOP, {})
     words = crate.words(["--jobs", "1"], keeps=any(build_library.is_marked(it) for it in crate.below()))
+    words += build_library.kept_words(rtlib)
     os.makedirs(os.path.dirname(kept_path(name)), exist_ok=True)
     with tempfile.TemporaryDirectory() as room:
         made = ["--toolchain", keeping_toolchain(rtlib.KIT, f"{room}/kept.bc", room), "--backend", "llvm"]
