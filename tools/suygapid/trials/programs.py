@@ -32,7 +32,7 @@ class Program:
     """The packages of a program, the patterns of the first one's files and of those that are left out, options, inputs (ours,
     the package's, or those of the other examples, one after another where + joins them), the bytes that malloc and the stack
     have, the folder of headers beside those of the files, a file that the program has as data.h, and the size of the data, if
-    malloc has what the stack leaves of them. A file of our own has its main, if there is one of its name."""
+    malloc has what the stack leaves of them. A file of our own has its main, if there is one of its name, or of that given here."""
     package: str
     files: str
     options: str = ""
@@ -44,6 +44,7 @@ class Program:
     headers: str = "include"
     data: str = ""
     memory: str = ""
+    main: str = ""
 
     def is_plus_plus(self):
         return self.library == "c++"
@@ -52,6 +53,8 @@ class Program:
         """The one for this machine."""
         return "g++" if self.is_plus_plus() else "gcc"
 
+
+SQLITE = "-DSQLITE_OS_OTHER=1 -DSQLITE_THREADSAFE=0 -DSQLITE_OMIT_LOAD_EXTENSION -DSQLITE_TEMP_STORE=3"
 
 PROGRAMS = {
     "lua": Program("lua5.4", "src/*.c", "-DLUA_COMPAT_5_3 -Dlua_stdin_is_tty()=0",
@@ -74,15 +77,13 @@ PROGRAMS = {
     "brotli": Program("brotli", "c/common/*.c c/enc/*.c c/dec/*.c", inputs="list.xml calls.lua", heap=566000, stack=10240,
                       headers="c/include"),
     "mbedtls": Program("mbedtls", "library/*.c programs/test/selftest.c", '-DMBEDTLS_USER_CONFIG_FILE="mbedtls_here.h"'),
-    "sqlite": Program("libdbd-sqlite3-perl", "sqlite3.c", "-DSQLITE_OS_OTHER=1 -DSQLITE_THREADSAFE=0 -DSQLITE_OMIT_LOAD_EXTENSION "
-                      "-DSQLITE_TEMP_STORE=3", "shop.sql", heap=600000),
+    "sqlite": Program("libdbd-sqlite3-perl", "sqlite3.c", SQLITE, "shop.sql", heap=600000),
     "tinyscheme": Program("tinyscheme", "scheme.c", "-D_POSIX_C_SOURCE=200809 -DSTANDALONE=0 -DUSE_DL=0", "init.scm+queens.scm", heap=800000),
     "lodepng": Program("lodepng", "lodepng.cpp", "-DLODEPNG_NO_COMPILE_DISK", library="c++"),
     "truetype": Program("libstb fonts-tuffy", "", headers=".", data="Tuffy_Bold.ttf"),
     # In words alone: bundles have no room for these data.
     "brotli_window": Program("brotli", "c/common/*.c c/enc/*.c c/dec/*.c", headers="c/include", memory="64M"),
-    "sqlite_memory": Program("libdbd-sqlite3-perl", "sqlite3.c", "-DSQLITE_OS_OTHER=1 -DSQLITE_THREADSAFE=0 -DSQLITE_OMIT_LOAD_EXTENSION "
-                             "-DSQLITE_TEMP_STORE=3", memory="32M"),
+    "sqlite_memory": Program("libdbd-sqlite3-perl", "sqlite3.c", SQLITE, "sale.sql", memory="32M", main="sqlite"),
     "picture": Program("libstb", "", headers=".", memory="16M"),
 }
 
@@ -164,7 +165,7 @@ def files_of(name, tree):
     """The files of a program, ours last."""
     program = PROGRAMS[name]
     found = [path for pattern in program.files.split() for path in sorted(glob.glob(os.path.join(tree, pattern)))]
-    own = os.path.join(OWN, f"{name}.cpp" if program.is_plus_plus() else f"{name}.c")
+    own = os.path.join(OWN, f"{program.main or name}.{'cpp' if program.is_plus_plus() else 'c'}")
     return [path for path in found if not path.endswith(program.left_out)] + [own] * os.path.exists(own)
 
 
