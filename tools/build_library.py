@@ -50,14 +50,14 @@ def build_again(name, folder):
     return 0
 
 
-def kept_words(rtlib):
-    """The words by which rattle keeps what it proves of a crate, and takes it in the next build; none where a kit has none."""
-    return rtlib.KEPT if rtlib.libraries_keep() else []
+def words_of(rtlib, crate):
+    """Rattle's words for a build of the crate. Where a kit can, it keeps what it proves, and takes it in the next build."""
+    return [*crate.words(["--jobs", "1"], keeps=False), *(rtlib.KEPT if rtlib.libraries_keep() else [])]
 
 
 def build_for(rtlib, name, crate, target):
     """Proves the crate and builds it for a target, as `rt lib` does, and prints what rt has to say once it has ended."""
-    words = [*crate.words(["--jobs", "1"], keeps=False), *kept_words(rtlib)]
+    words = words_of(rtlib, crate)
     made = ["--toolchain", f"{rtlib.KIT}/toolchain", "--backend", "llvm"]
     crate = copy.copy(crate)
     with tempfile.TemporaryFile("w+", errors="replace") as crate.out:

@@ -110,12 +110,10 @@ def keep_module(rtlib, name):
     """Proves the crate, builds its library for x86-64, as `rt lib` does, and keeps its LLVM module: rattle builds none but a
     proved crate, and takes what tools/build_library.py proved of it."""
     crate = rtlib.Crate(os.path.join(toolchain.TOP, "crates", name), toolchain.TOP, {})
-    words = crate.words(["--jobs", "1"], keeps=any(build_library.is_marked(it) for it in crate.below()))
-    words += build_library.kept_words(rtlib)
     os.makedirs(os.path.dirname(kept_path(name)), exist_ok=True)
     with tempfile.TemporaryDirectory() as room:
         made = ["--toolchain", keeping_toolchain(rtlib.KIT, f"{room}/kept.bc", room), "--backend", "llvm"]
-        words = [rtlib.RATTLE, "build", *words, *made, "-o", f"{room}/lib{name}.a"]
+        words = [rtlib.RATTLE, "build", *build_library.words_of(rtlib, crate), *made, "-o", f"{room}/lib{name}.a"]
         ran = subprocess.run(words, cwd=crate.folder, stdout=subprocess.PIPE, stderr=subprocess.STDOUT, errors="replace", check=False)
         if ran.returncode or not os.path.exists(f"{room}/kept.bc"):
             sys.exit(f"{ran.stdout[-2000:]}\nwasm_module: {name} isn't proved, or not built by clang")
