@@ -65,15 +65,13 @@ pub(super) fn line(offset: u32, size: u32, instr: Instr) -> Line {
 }
 
 /// A jump over 64 bytes, from 0x01000000 on. In the code of x86-64 its label is 256 bytes ahead of it.
-pub(super) fn jump_ahead() -> Jump {
-    Jump {
-        from: 0x0100_0000,
-        to: 0x0100_0040,
-        label: 256,
-        exit: 4096,
-        label_owed: 0,
-    }
-}
+pub(super) const AHEAD: Jump = Jump {
+    from: 0x0100_0000,
+    to: 0x0100_0040,
+    label: 256,
+    exit: 4096,
+    label_owed: 0,
+};
 
 /// A sandbox of `code`, at 0x01000000.
 pub(super) fn part_of(alloc: Global, code: &[u8]) -> SandboxPart<'_> {

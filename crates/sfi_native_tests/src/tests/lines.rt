@@ -1,5 +1,5 @@
 //! Lines of code, as the GNU assembler spells their instructions.
-use super::code::{addition, branch, call, jump_ahead, line, load, number, operation, part_of};
+use super::code::{AHEAD, addition, branch, call, line, load, number, operation, part_of};
 use rv_word::{Cond, ImmOp, Instr, LoadKind, Reg, RegOp, StoreWidth};
 use sfi_formats::Format;
 use sfi_native::{
@@ -71,14 +71,10 @@ fn jumps_are_spelled(rt: HostRuntime) -> Result<(), Fail> {
     let plan = Plan::in_frame(rt.alloc(), Format::Sfiw);
     let mut out = Vec::new(rt.alloc());
     let (x1, x5, x6) = (Reg::numbered(1), Reg::numbered(5), Reg::numbered(6));
-    let ahead = Jump {
-        label_owed: 0,
-        ..jump_ahead()
-    };
-    push_branch_line(&mut out, &plan, 0, 0, Cond::Bgeu, x5, x6, ahead)?;
+    push_branch_line(&mut out, &plan, 0, 0, Cond::Bgeu, x5, x6, AHEAD)?;
     let near = Jump {
         label: 0xffff_fff0,
-        ..ahead
+        ..AHEAD
     };
     push_jal_line(&mut out, &plan, 0, x1, 0x0100_0004, near)?;
     push_head_line(&mut out, 0x0100_0080, 0, 4096)?;

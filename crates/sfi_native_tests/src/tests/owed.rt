@@ -1,5 +1,5 @@
 //! Lines that count steps late, as the GNU assembler spells their instructions, and the numbers of steps that are owed.
-use super::code::{addition, branch, jump_ahead, line, load, part_of};
+use super::code::{AHEAD, addition, branch, line, load, part_of};
 use rv_word::{Cond, Instr, LoadKind, Reg, StoreWidth};
 use sfi_formats::Format;
 use sfi_native::{
@@ -92,7 +92,7 @@ fn push_jumps(out: &mut Vec<u8>, plan: &Plan) -> Result<(), Fail> {
     let (x1, x5, x6) = (Reg::numbered(1), Reg::numbered(5), Reg::numbered(6));
     let ahead = Jump {
         label_owed: 3,
-        ..jump_ahead()
+        ..AHEAD
     };
     push_branch_line(out, plan, 2, 1, Cond::Bgeu, x5, x6, ahead)?;
     let back = Jump {

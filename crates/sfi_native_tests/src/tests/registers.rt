@@ -1,9 +1,9 @@
 //! Lines by a map of registers, as the GNU assembler spells their instructions, maps that aren't right, and those that are chosen.
-use super::code::{call, jump_ahead, line, part_of};
+use super::code::{AHEAD, call, line, part_of};
 use rv_word::{Cond, ImmOp, Instr, LoadKind, Reg, RegOp, StoreWidth};
 use sfi_formats::Format;
 use sfi_native::{
-    Jump, Plan, plan_of, push_branch_line, push_computing_line, push_load_line, push_store_line,
+    Plan, plan_of, push_branch_line, push_computing_line, push_load_line, push_store_line,
 };
 use std::alloc::Global;
 use std::test::Fail;
@@ -133,11 +133,7 @@ fn branches_are_spelled_by_a_map(rt: HostRuntime) -> Result<(), Fail> {
     let mut out = Vec::new(rt.alloc());
     let plan = some_registers(rt.alloc());
     let (x0, x5) = (Reg::numbered(0), Reg::numbered(5));
-    let ahead = Jump {
-        label_owed: 0,
-        ..jump_ahead()
-    };
-    push_branch_line(&mut out, &plan, 0, 0, Cond::Bgeu, x5, x0, ahead)?;
+    push_branch_line(&mut out, &plan, 0, 0, Cond::Bgeu, x5, x0, AHEAD)?;
     assert!(rt; out.as_slice() == BRANCH_BY_MAP.as_slice());
     Ok(())
 }

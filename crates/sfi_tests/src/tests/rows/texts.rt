@@ -1,8 +1,7 @@
 //! Texts of more than one row, by their names.
 
-/// The text of that name, by which rows (`text NAME`) and tests have it; `None` where none has the
-/// name.
-pub(crate) fn text_named(name: &str) -> Option<&'static str> {
+/// The text of that name, by which rows (`text NAME`) have it; `None` where none has the name.
+pub(super) fn text_named(name: &str) -> Option<&'static str> {
     match name {
         "hi" => Some(HI),
         "front of hi" => Some(HI_FRONT),
